@@ -12,7 +12,7 @@ use Rattle.std.proofs.lemmas.List.Folds.{find_at, find-set, find_past, find-appe
 use Rattle.std.proofs.lemmas.List.Sums.{passes_at_first}
 use Rattle.std.proofs.lemmas.Option.{slice_get-get_or}
 use Rattle.layout_io.specs.declared.stored.Stored.{Stored}
-use Rattle.layout_io.specs.Told.{bytes_of, SameBut, IsGrown, IsEmptied}
+use Rattle.layout_io.specs.Told.{bytes_of, SameBut, IsGrown, IsPut}
 
 abbrev pub named : List ℕ → Stored → Bool
 named name f = bytes_eq f.name name
@@ -91,21 +91,21 @@ grown_nowhere name piece xs e = record {
   others = λ other ne. refl;
 }
 
-pub emptied_at : (name : List ℕ) (xs : List Stored) (i : ℕ) (f y : Stored) → IsPlace name xs i f → y.name ≡ f.name → y.bytes ≡ [] → IsEmptied name xs (set xs i y)
-emptied_at name xs i f y p same none = record { empty = bytes_set name xs i f y p same ∙ ap Some none; others = others_set name xs i f y p same }
+pub put_at : (name bytes : List ℕ) (xs : List Stored) (i : ℕ) (f y : Stored) → IsPlace name xs i f → y.name ≡ f.name → y.bytes ≡ bytes → IsPut name bytes xs (set xs i y)
+put_at name bytes xs i f y p same so = record { there = bytes_set name xs i f y p same ∙ ap Some so; others = others_set name xs i f y p same }
 
 or_none : (o : Option Stored) (y : Stored) (b : Bool) → b ≡ false → o ≡ Rattle.std.specs.Option.option_or o (cond b (Some y) None)
 or_none None y true e = absurd cc
 or_none None y false e = refl
 or_none (Some x) y b e = refl
 
-pub emptied_new : (name : List ℕ) (xs : List Stored) (y : Stored) → position (named name) xs ≡ None → y.name ≡ name → y.bytes ≡ [] → IsEmptied name xs (xs ++ y ∷ [])
-emptied_new name xs y e same none =
+pub put_new : (name bytes : List ℕ) (xs : List Stored) (y : Stored) → position (named name) xs ≡ None → y.name ≡ name → y.bytes ≡ bytes → IsPut name bytes xs (xs ++ y ∷ [])
+put_new name bytes xs y e same so =
     let none_yet = position_none (named name) xs e in
     let passes = (bytes_eq-Decides y.name name).1 same in
     let found : find (named name) (xs ++ y ∷ []) ≡ Some y = find-append (named name) xs (y ∷ []) ∙ rw (none_yet, passes) refl in
     record {
-      empty = ap (option_map (λ (g : Stored). g.bytes)) found ∙ ap Some none;
+      there = ap (option_map (λ (g : Stored). g.bytes)) found ∙ ap Some so;
       others = λ other ne. ap (option_map (λ (g : Stored). g.bytes)) (find-append (named other) xs (y ∷ []) ∙ sym (or_none (find (named other) xs) y (named other y) (fails_other name other y same ne)));
     }
 

@@ -84,7 +84,7 @@ pub record IsGrown (name piece : List ℕ) (old new : List Stored) : Type 0 wher
   pub grown : (had : List ℕ) → bytes_of old name ≡ Some had → bytes_of new name ≡ Some (had ++ piece)
   pub others : SameBut name old new
 
--- the file under the name is empty
-pub record IsEmptied (name : List ℕ) (old new : List Stored) : Type 0 where
-  pub empty : bytes_of new name ≡ Some []
+-- these bytes are under the name
+pub record IsPut (name bytes : List ℕ) (old new : List Stored) : Type 0 where
+  pub there : bytes_of new name ≡ Some bytes
   pub others : SameBut name old new

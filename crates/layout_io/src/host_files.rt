@@ -1,5 +1,5 @@
 //! The files of the machine. They tell nothing of bytes: this is the trusted edge.
-ghost use Rattle.std.specs.Prelude.{◌≡◌, ◌<◌, ◌^◌, ◌++◌, ◌∷◌, [], length, vec_len, vec_capacity, IfOk, OnOk, OnErr, is_ok, if◌then◌else◌};
+ghost use Rattle.std.specs.Prelude.{◌≡◌, false, ◌<◌, ◌^◌, ◌++◌, ◌∷◌, [], length, vec_len, vec_capacity, IfOk, OnOk, OnErr, is_ok, if◌then◌else◌};
 
 use crate::{Files, IoFault, Name, Row};
 use std::alloc::{AllocError, Global};
@@ -21,7 +21,15 @@ pub struct HostFiles {
 }
 
 impl HostFiles {
-    pub fn new(rt: &HostRuntime) -> HostFiles {
+    /// The files of the machine: no call was made, and no count has risen. It takes no memory.
+    pub fn new(rt: &HostRuntime) -> HostFiles
+        ensures readers { result.readers.items ≡ [] }
+        ensures writers { result.writers.items ≡ [] }
+        ensures asked { result.asked.items ≡ [] }
+        ensures read_faults { result.read_faults ≡ 0 }
+        ensures write_faults { result.write_faults ≡ 0 }
+        ensures ran_out { result.ran_out ≡ false }
+    {
         let alloc = rt.alloc();
         HostFiles {
             rt: *rt,

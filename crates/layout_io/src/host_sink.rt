@@ -1,5 +1,5 @@
 //! The standard output. It tells nothing of bytes: this is the trusted edge.
-ghost use Rattle.std.specs.Prelude.{◌≡◌, IfOk, OnOk, OnErr, is_ok, if◌then◌else◌};
+ghost use Rattle.std.specs.Prelude.{◌≡◌, false, IfOk, OnOk, OnErr, is_ok, if◌then◌else◌};
 
 use crate::{IoFault, Sink};
 use std::io;
@@ -15,7 +15,11 @@ pub struct HostSink {
 }
 
 impl HostSink {
-    pub fn new(rt: &HostRuntime) -> HostSink {
+    /// The standard output: no write was made. It takes no memory.
+    pub fn new(rt: &HostRuntime) -> HostSink
+        ensures faults { result.faults ≡ 0 }
+        ensures ran_out { result.ran_out ≡ false }
+    {
         HostSink {
             rt: *rt,
             faults: 0,

@@ -1,11 +1,14 @@
 //! The outside of the programs: byte sinks and named files, in memory and real.
 #![tactic(auto)]
 
+mod calls;
 mod fault;
 mod host_files;
 mod host_sink;
 mod memory_files;
 mod memory_sink;
+mod numbers;
+mod reader;
 mod stored;
 mod traits;
 
@@ -17,3 +20,6 @@ pub use memory_sink::MemSink;
 pub use row_lists::{Row, Text};
 pub use stored::{Bytes, Name, Stored};
 pub use traits::{Files, Sink};
+
+#[cfg(test)]
+mod tests;

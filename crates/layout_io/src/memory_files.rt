@@ -1,19 +1,12 @@
 //! Files in memory, for tests.
-ghost use Rattle.std.specs.Prelude.{◌≡◌, ◌<◌, ◌≤◌, ◌++◌, ◌∷◌, [], Some, OnErr, OnOk, IfOk, IfSome, IfNone, length, take, vec_len, is_ok, if◌then◌else◌};
-ghost use Rattle.std.specs.Str.{bytes_eq};
-ghost use Rattle.std.specs.List.{position, find};
-ghost use Rattle.layout_io.specs.Told.{IsGrown, IsEmptied, bytes_of};
-ghost use Rattle.layout_io.specs.Places.{rest_of};
+ghost use Rattle.std.specs.Prelude.{◌≡◌, ◌<◌, ◌≤◌, ◌++◌, ◌∷◌, ◌⊎◌, [], Some, None, false, OnErr, OnOk, IfOk, IfSome, IfNone, MatchOption, ℕ, length, min, take, is_ok, if◌then◌else◌};
 
-use crate::{Bytes, Files, IoFault, Name, Row, Stored};
+use crate::calls::is_due;
+use crate::numbers::{add_reader, add_target, note};
+use crate::reader::{Reader, read_on, reader_for};
+use crate::stored::{grow, place_of, replace};
+use crate::{Files, IoFault, Name, Row, Stored};
 use std::alloc::{AllocError, Global};
-
-/// An opened file: the bytes that it had, and how many of them were read.
-#[derive(Drop)]
-struct Reader {
-    bytes: Bytes,
-    at: usize,
-}
 
 /// Files in memory, whose calls fail where a test asks for it.
 #[derive(Drop)]
@@ -23,10 +16,10 @@ pub struct MemFiles {
     readers: Vec<Reader>,
     targets: Vec<Name>,
     asked: Vec<Name>,
-    failing_reads: Vec<u32>,
-    failing_writes: Vec<u32>,
-    read_calls: u32,
-    write_calls: u32,
+    failing_reads: Vec<u64>,
+    failing_writes: Vec<u64>,
+    read_calls: u64,
+    write_calls: u64,
     read_faults: u64,
     write_faults: u64,
     ran_out: bool,
@@ -34,147 +27,18 @@ pub struct MemFiles {
     ghost some: { 0 < most },
 }
 
-fn place_of(files: &[Stored], name: &[u8]) -> Option<usize>
-    ensures { result ≡ position (λ f. bytes_eq f.name name.now) files.now }
-{
-    files.iter().position(|f| f.name.as_slice() == name)
-}
-
-// Puts a piece at the end of the file under the name, where there is one.
-fn grow(files: &mut Vec<Stored>, name: &[u8], piece: &[u8]) -> Result<(), AllocError>
-    ensures ok { OnOk result (IsGrown name.now piece.now files.old.items files.new.items) }
-    ensures err { OnErr result (files.new.items ≡ files.old.items) }
-{
-    match place_of(files, name) {
-        None => Ok(()),
-        Some(i) => {
-            let file = &mut files[i];
-            file.bytes.append(piece)
-        }
-    }
-}
-
-// Makes the file under the name, or empties it.
-fn empty(alloc: Global, files: &mut Vec<Stored>, name: &[u8]) -> Result<(), AllocError>
-    ensures ok { OnOk result (IsEmptied name.now files.old.items files.new.items) }
-    ensures err { OnErr result (files.new.items ≡ files.old.items) }
-{
-    match place_of(files, name) {
-        None => {
-            let name = Row::from_slice(alloc, name)?;
-            files.push(Stored {
-                name,
-                bytes: Row::new(alloc),
-            })?;
-            Ok(())
-        }
-        Some(i) => {
-            let file = &mut files[i];
-            file.bytes = Row::new(alloc);
-            Ok(())
-        }
-    }
-}
-
-// Reads on into the room.
-fn read_on(reader: &mut Reader, into: &mut [u8]) -> usize
-    ensures bound { result ≤ length into.new }
-    ensures taken { rest_of reader.old ≡ take result into.new ++ rest_of reader.new }
-    ensures end { result ≡ 0 → 0 < length into.new → rest_of reader.old ≡ [] }
-{
-    let bytes = reader.bytes.as_slice();
-    let start = reader.at.min(bytes.len());
-    let (_, rest) = bytes.split_at(start);
-    let count = rest.len().min(into.len());
-    let (front, _) = rest.split_at(count);
-    into[..count].copy_from_slice(front);
-    reader.at = start + count;
-    count
-}
-
-// Counts a call, and tells whether it is to fail.
-fn is_due(calls: &mut u32, failing: &[u32]) -> bool {
-    *calls = calls.saturating_add(1);
-    failing.contains(calls)
-}
-
-// A reader of the file under the name, where there is one.
-fn reader_of(files: &[Stored], name: &[u8]) -> Result<Option<Reader>, AllocError>
-    ensures { IfOk result (λ o. IfSome o (λ r. bytes_of files.now name.now ≡ Some (rest_of r))) }
-{
-    match place_of(files, name) {
-        None => Ok(None),
-        Some(i) => {
-            let file = &files[i];
-            let bytes = file.bytes.copy()?;
-            Ok(Some(Reader { bytes, at: 0 }))
-        }
-    }
-}
-
-// Adds a name to those asked for.
-fn note(alloc: Global, asked: &mut Vec<Name>, name: &str) -> Result<(), AllocError>
-    ensures { asked.new.items ≡ (if is_ok result then asked.old.items ++ name.now ∷ [] else asked.old.items) }
-{
-    asked.push(Row::from_slice(alloc, name.as_bytes())?)?;
-    Ok(())
-}
-
-// Gives a reader its number, and notes the name.
-fn add_reader(
-    alloc: Global,
-    readers: &mut Vec<Reader>,
-    asked: &mut Vec<Name>,
-    reader: Reader,
-    name: &str,
-) -> Result<u32, AllocError>
-    ensures number { IfOk result (λ n. n ≡ length readers.old.items) }
-    ensures readers { readers.new.items ≡ (if is_ok result then readers.old.items ++ reader ∷ [] else readers.old.items) }
-    ensures asked { asked.new.items ≡ (if is_ok result then asked.old.items ++ name.now ∷ [] else asked.old.items) }
-{
-    let number = readers.len();
-    if number > u32::MAX as usize {
-        return Err(AllocError);
-    }
-    readers.reserve(1)?;
-    note(alloc, asked, name)?;
-    readers.push(reader).unwrap();
-    Ok(number as u32)
-}
-
-// Empties the file under the name, gives its writer a number, and notes the name.
-fn add_target(
-    alloc: Global,
-    files: &mut Vec<Stored>,
-    targets: &mut Vec<Name>,
-    asked: &mut Vec<Name>,
-    name: &str,
-) -> Result<u32, AllocError>
-    ensures number { IfOk result (λ n. n ≡ length targets.old.items) }
-    ensures files { OnOk result (IsEmptied name.now files.old.items files.new.items) }
-    ensures files_err { OnErr result (files.new.items ≡ files.old.items) }
-    ensures targets { targets.new.items ≡ (if is_ok result then targets.old.items ++ name.now ∷ [] else targets.old.items) }
-    ensures asked { asked.new.items ≡ (if is_ok result then asked.old.items ++ name.now ∷ [] else asked.old.items) }
-{
-    let number = targets.len();
-    if number > u32::MAX as usize {
-        return Err(AllocError);
-    }
-    let target = Row::from_slice(alloc, name.as_bytes())?;
-    let noted = Row::from_slice(alloc, name.as_bytes())?;
-    targets.reserve(1)?;
-    asked.reserve(1)?;
-    empty(alloc, files, name.as_bytes())?;
-    targets.push(target).unwrap();
-    asked.push(noted).unwrap();
-    Ok(number as u32)
-}
-
 impl MemFiles {
-    ghost use Rattle.layout_io.specs.MemoryFiles.{stored_files};
+    ghost use Rattle.layout_io.specs.MemoryFiles.{Plan, stored_files, plan_of, asked_of, add_failing_read, add_failing_write, KeepsTold};
+    ghost use Rattle.layout_io.specs.Told.{IsPut, bytes_of};
 
+    /// No files, and no call that is to fail. A write takes the whole piece. It takes no memory.
     pub fn new(alloc: Global) -> Self
-        ensures { stored_files result ≡ [] }
+        ensures files { stored_files result ≡ [] }
+        ensures plan { plan_of result ≡ record { failing_reads = []; reads = 0; failing_writes = []; writes = 0; most = usize.MAX } }
+        ensures asked { asked_of result ≡ [] }
+        ensures read_faults { result.read_faults ≡ 0 }
+        ensures write_faults { result.write_faults ≡ 0 }
+        ensures ran_out { result.ran_out ≡ false }
     {
         MemFiles {
             alloc,
@@ -193,36 +57,51 @@ impl MemFiles {
         }
     }
 
-    /// Puts a file with these bytes.
-    pub fn put(&mut self, name: &str, bytes: &[u8]) -> Result<(), AllocError> {
-        empty(self.alloc, &mut self.files, name.as_bytes())?;
-        grow(&mut self.files, name.as_bytes(), bytes)
+    /// Puts these bytes under the name, in place of those that are there. An `Err`, for want of
+    /// memory, leaves the files as they were.
+    pub fn put(&mut self, name: &str, bytes: &[u8]) -> Result<(), AllocError>
+        ensures ok { OnOk result (IsPut name.now bytes.now (stored_files self.old) (stored_files self.new)) }
+        ensures err { OnErr result (stored_files self.new ≡ stored_files self.old) }
+        ensures plan { plan_of self.new ≡ plan_of self.old }
+        ensures rest { KeepsTold self.old self.new }
+    {
+        let bytes = Row::from_slice(self.alloc, bytes)?;
+        replace(self.alloc, &mut self.files, name.as_bytes(), bytes)
     }
 
-    /// Has this call of `open_read`, `read` or `create` fail, counted from 1.
+    /// Adds a call to the list of those that are to fail, where each `open_read`, `read` and `create`
+    /// is counted, from 1. An `Err`, for want of memory, leaves the list as it was.
     pub fn fail_read(&mut self, call: u32) -> Result<(), AllocError>
-        ensures { stored_files self.new ≡ stored_files self.old }
+        ensures plan { plan_of self.new ≡ (if is_ok result then add_failing_read call (plan_of self.old) else plan_of self.old) }
+        ensures files { stored_files self.new ≡ stored_files self.old }
+        ensures rest { KeepsTold self.old self.new }
     {
-        self.failing_reads.push(call)?;
+        self.failing_reads.push(u64::from(call))?;
         Ok(())
     }
 
-    /// Has this call of `write` fail, counted from 1.
+    /// Adds a call to the list of those that are to fail, where each `write` is counted, from 1. An
+    /// `Err`, for want of memory, leaves the list as it was.
     pub fn fail_write(&mut self, call: u32) -> Result<(), AllocError>
-        ensures { stored_files self.new ≡ stored_files self.old }
+        ensures plan { plan_of self.new ≡ (if is_ok result then add_failing_write call (plan_of self.old) else plan_of self.old) }
+        ensures files { stored_files self.new ≡ stored_files self.old }
+        ensures rest { KeepsTold self.old self.new }
     {
-        self.failing_writes.push(call)?;
+        self.failing_writes.push(u64::from(call))?;
         Ok(())
     }
 
     /// From now on a write takes at most so many bytes.
     pub fn set_piece(&mut self, most: usize)
         requires { 0 < most }
-        ensures { stored_files self.new ≡ stored_files self.old }
+        ensures plan { plan_of self.new ≡ record (plan_of self.old) { most = most } }
+        ensures files { stored_files self.new ≡ stored_files self.old }
+        ensures rest { KeepsTold self.old self.new }
     {
         self.most = most;
     }
 
+    /// The bytes under the name, or `None` where no file has it.
     pub fn bytes_of(&self, name: &str) -> Option<&[u8]>
         ensures some { IfSome result (λ b. bytes_of (stored_files self.now) name.now ≡ Some b.now) }
         ensures none { IfNone result (bytes_of (stored_files self.now) name.now ≡ None) }
@@ -238,16 +117,18 @@ impl MemFiles {
 }
 
 impl Files for MemFiles {
-    ghost use Rattle.std.specs.Prelude.{◌<◌, ℕ, length, Some};
-    ghost use Rattle.layout_io.specs.MemoryFiles.{disk_of};
+    ghost use Rattle.layout_io.specs.Calls.{CountsOne, FailsExactly, FailsUnlessMemory};
+    ghost use Rattle.layout_io.specs.Causes.{HasCause, RanOut};
+    ghost use Rattle.layout_io.specs.MemoryFiles.{disk_of, plan_of, asked_of, stored_files, IsReader, IsWriter, IsReadDue, IsWriteDue, after_read, after_write};
+    ghost use Rattle.layout_io.specs.Told.{AsksFor, Gave, IsOpened, IsRead, IsCreated, IsWritten, bytes_of};
 
     ghost disk = { λ m. Some (disk_of m) };
 
-    ghost asked = { λ m. m.asked.items };
+    ghost asked = { λ m. asked_of m };
 
-    ghost reads = { λ m n. n < length m.readers.items };
+    ghost reads = { λ m n. IsReader m n };
 
-    ghost writes = { λ m n. n < length m.targets.items };
+    ghost writes = { λ m n. IsWriter m n };
 
     ghost read_faults = { λ m. m.read_faults };
 
@@ -255,14 +136,27 @@ impl Files for MemFiles {
 
     ghost ran_out = { λ m. m.ran_out };
 
-    fn open_read(&mut self, name: &str) -> Result<u32, IoFault> {
-        let fails = is_due(&mut self.read_calls, &self.failing_reads);
-        let reader = if fails {
-            None
-        } else {
-            reader_of(&self.files, name.as_bytes())?
-        };
-        match reader {
+    /// Opens the file for reading, but where the call is listed to fail, no file has the name or
+    /// memory runs out.
+    fn open_read(&mut self, name: &str) -> Result<u32, IoFault>
+        ensures ok { IfOk result (λ n. IsOpened name.now n (disk_of self.old) (disk_of self.new)) }
+        ensures err { OnErr result (disk_of self.new ≡ disk_of self.old) }
+        ensures asked { AsksFor name.now (asked_of self.old) (asked_of self.new) result }
+        ensures reads { Gave (IsReader self.old) (IsReader self.new) result }
+        ensures writes { (k : ℕ) → IsWriter self.old k → IsWriter self.new k }
+        ensures cause { HasCause self.old.read_faults self.new.read_faults result }
+        ensures other_count { self.new.write_faults ≡ self.old.write_faults }
+        ensures memory { self.new.ran_out ≡ self.old.ran_out }
+        ensures exact { FailsUnlessMemory (IsReadDue (plan_of self.old) ⊎ (bytes_of (stored_files self.old) name.now ≡ None)) result }
+        ensures counted { CountsOne self.old.read_faults self.new.read_faults result }
+        ensures plan { plan_of self.new ≡ after_read (plan_of self.old) }
+    {
+        match reader_for(
+            &mut self.read_calls,
+            &self.failing_reads,
+            &self.files,
+            name.as_bytes(),
+        )? {
             None => {
                 note(self.alloc, &mut self.asked, name)?;
                 self.read_faults = self.read_faults.saturating_add(1);
@@ -278,7 +172,25 @@ impl Files for MemFiles {
         }
     }
 
-    fn read(&mut self, file: u32, into: &mut [u8]) -> Result<usize, IoFault> {
+    /// Reads as much as there is room for and left, but where the call is listed to fail. It takes
+    /// no memory.
+    fn read(&mut self, file: u32, into: &mut [u8]) -> Result<usize, IoFault>
+        requires { IsReader self.old file }
+        ensures bound { IfOk result (λ k. k ≤ length into.new) }
+        ensures ok { IfOk result (λ k. IsRead file (take k into.new) (disk_of self.old) (disk_of self.new)) }
+        ensures end { IfOk result (λ k. k ≡ 0 → 0 < length into.new → (disk_of self.old).left file ≡ []) }
+        ensures err { OnErr result (disk_of self.new ≡ disk_of self.old) }
+        ensures asked { asked_of self.new ≡ asked_of self.old }
+        ensures reads { (k : ℕ) → IsReader self.old k → IsReader self.new k }
+        ensures writes { (k : ℕ) → IsWriter self.old k → IsWriter self.new k }
+        ensures cause { HasCause self.old.read_faults self.new.read_faults result }
+        ensures other_count { self.new.write_faults ≡ self.old.write_faults }
+        ensures memory { self.new.ran_out ≡ self.old.ran_out }
+        ensures count { IfOk result (λ k. k ≡ min (length into.new) (length ((disk_of self.old).left file))) }
+        ensures exact { FailsExactly (IsReadDue (plan_of self.old)) result }
+        ensures counted { CountsOne self.old.read_faults self.new.read_faults result }
+        ensures plan { plan_of self.new ≡ after_read (plan_of self.old) }
+    {
         if is_due(&mut self.read_calls, &self.failing_reads) {
             self.read_faults = self.read_faults.saturating_add(1);
             return Err(IoFault::Failed);
@@ -287,9 +199,21 @@ impl Files for MemFiles {
         Ok(read_on(reader, into))
     }
 
-    fn create(&mut self, name: &str) -> Result<u32, IoFault> {
-        let fails = is_due(&mut self.read_calls, &self.failing_reads);
-        if fails {
+    /// Makes or empties the file, but where the call is listed to fail or memory runs out.
+    fn create(&mut self, name: &str) -> Result<u32, IoFault>
+        ensures ok { IfOk result (λ n. IsCreated name.now n (disk_of self.old) (disk_of self.new)) }
+        ensures err { OnErr result (disk_of self.new ≡ disk_of self.old) }
+        ensures asked { AsksFor name.now (asked_of self.old) (asked_of self.new) result }
+        ensures reads { (k : ℕ) → IsReader self.old k → IsReader self.new k }
+        ensures writes { Gave (IsWriter self.old) (IsWriter self.new) result }
+        ensures cause { HasCause self.old.write_faults self.new.write_faults result }
+        ensures other_count { self.new.read_faults ≡ self.old.read_faults }
+        ensures memory { self.new.ran_out ≡ self.old.ran_out }
+        ensures exact { FailsUnlessMemory (IsReadDue (plan_of self.old)) result }
+        ensures counted { CountsOne self.old.write_faults self.new.write_faults result }
+        ensures plan { plan_of self.new ≡ after_read (plan_of self.old) }
+    {
+        if is_due(&mut self.read_calls, &self.failing_reads) {
             note(self.alloc, &mut self.asked, name)?;
             self.write_faults = self.write_faults.saturating_add(1);
             return Err(IoFault::Failed);
@@ -303,7 +227,25 @@ impl Files for MemFiles {
         )?)
     }
 
-    fn write(&mut self, file: u32, piece: &[u8]) -> Result<usize, IoFault> {
+    /// Takes the whole piece or as much as `set_piece` said, but where the write is listed to fail
+    /// or memory runs out.
+    fn write(&mut self, file: u32, piece: &[u8]) -> Result<usize, IoFault>
+        requires { IsWriter self.old file }
+        ensures bound { IfOk result (λ k. k ≤ length piece.now) }
+        ensures some { IfOk result (λ k. 0 < length piece.now → 0 < k) }
+        ensures ok { IfOk result (λ k. IsWritten file (take k piece.now) (disk_of self.old) (disk_of self.new)) }
+        ensures err { OnErr result (disk_of self.new ≡ disk_of self.old) }
+        ensures asked { asked_of self.new ≡ asked_of self.old }
+        ensures reads { (k : ℕ) → IsReader self.old k → IsReader self.new k }
+        ensures writes { (k : ℕ) → IsWriter self.old k → IsWriter self.new k }
+        ensures cause { HasCause self.old.write_faults self.new.write_faults result }
+        ensures other_count { self.new.read_faults ≡ self.old.read_faults }
+        ensures memory { RanOut self.old.ran_out self.new.ran_out result }
+        ensures count { IfOk result (λ k. k ≡ min (length piece.now) (plan_of self.old).most) }
+        ensures exact { FailsUnlessMemory (IsWriteDue (plan_of self.old)) result }
+        ensures counted { CountsOne self.old.write_faults self.new.write_faults result }
+        ensures plan { plan_of self.new ≡ after_write (plan_of self.old) }
+    {
         if is_due(&mut self.write_calls, &self.failing_writes) {
             self.write_faults = self.write_faults.saturating_add(1);
             return Err(IoFault::Failed);

@@ -1,6 +1,7 @@
 //! A sink in memory, for tests.
-ghost use Rattle.std.specs.Prelude.{◌≡◌, [], Some, OnErr, OnOk, ◌++◌, ◌∷◌};
+ghost use Rattle.std.specs.Prelude.{◌≡◌, ◌++◌, ◌∷◌, [], length, false, IfOk, OnErr, if◌then◌else◌, is_ok};
 
+use crate::calls::is_due;
 use crate::{IoFault, Sink};
 use std::alloc::{AllocError, Global};
 
@@ -8,17 +9,22 @@ use std::alloc::{AllocError, Global};
 #[derive(Drop)]
 pub struct MemSink {
     bytes: Vec<u8>,
-    failing: Vec<u32>,
-    calls: u32,
+    failing: Vec<u64>,
+    calls: u64,
     faults: u64,
     ran_out: bool,
 }
 
 impl MemSink {
-    ghost use Rattle.layout_io.specs.Memory.{sink_bytes};
+    ghost use Rattle.layout_io.specs.Memory.{sink_bytes, sink_failing, sink_writes, KeepsSink};
 
+    /// A sink without bytes, none of whose writes is to fail. It takes no memory.
     pub fn new(alloc: Global) -> Self
-        ensures { sink_bytes result ≡ [] }
+        ensures bytes { sink_bytes result ≡ [] }
+        ensures failing { sink_failing result ≡ [] }
+        ensures writes { sink_writes result ≡ 0 }
+        ensures faults { result.faults ≡ 0 }
+        ensures ran_out { result.ran_out ≡ false }
     {
         MemSink {
             bytes: Vec::new(alloc),
@@ -29,11 +35,13 @@ impl MemSink {
         }
     }
 
-    /// Has this write fail, counted from 1.
+    /// Adds a write to the list of those that are to fail, counted from 1. An `Err`, for want of
+    /// memory, leaves the sink as it was.
     pub fn fail_write(&mut self, call: u32) -> Result<(), AllocError>
-        ensures { sink_bytes self.new ≡ sink_bytes self.old }
+        ensures listed { sink_failing self.new ≡ (if is_ok result then sink_failing self.old ++ call ∷ [] else sink_failing self.old) }
+        ensures rest { KeepsSink self.old self.new }
     {
-        self.failing.push(call)?;
+        self.failing.push(u64::from(call))?;
         Ok(())
     }
 
@@ -46,15 +54,32 @@ impl MemSink {
 }
 
 impl Sink for MemSink {
+    ghost use Rattle.std.specs.Prelude.{Some};
+    ghost use Rattle.std.specs.Io.KnownBytes.{Keeps};
+    ghost use Rattle.layout_io.specs.Calls.{CountsOne, FailsUnlessMemory, IsListed, next_number};
+    ghost use Rattle.layout_io.specs.Causes.{HasCause, RanOut};
+    ghost use Rattle.layout_io.specs.Memory.{sink_bytes, sink_failing, sink_writes};
+    ghost use Rattle.layout_io.specs.Told.{Wrote};
+
     ghost written = { λ s. Some s.bytes.items };
 
     ghost faults = { λ s. s.faults };
 
     ghost ran_out = { λ s. s.ran_out };
 
-    fn write(&mut self, piece: &[u8]) -> Result<usize, IoFault> {
-        self.calls = self.calls.saturating_add(1);
-        if self.failing.contains(&self.calls) {
+    /// Takes the whole piece, but where the write is listed to fail or memory runs out.
+    fn write(&mut self, piece: &[u8]) -> Result<usize, IoFault>
+        ensures ok { IfOk result (Wrote piece.now (Some (sink_bytes self.old)) (Some (sink_bytes self.new))) }
+        ensures err { OnErr result (Keeps (Some (sink_bytes self.old)) (Some (sink_bytes self.new))) }
+        ensures cause { HasCause self.old.faults self.new.faults result }
+        ensures memory { RanOut self.old.ran_out self.new.ran_out result }
+        ensures whole { IfOk result (λ k. k ≡ length piece.now) }
+        ensures exact { FailsUnlessMemory (IsListed (sink_failing self.old) (sink_writes self.old)) result }
+        ensures counted { CountsOne self.old.faults self.new.faults result }
+        ensures number { sink_writes self.new ≡ next_number (sink_writes self.old) }
+        ensures listed { sink_failing self.new ≡ sink_failing self.old }
+    {
+        if is_due(&mut self.calls, &self.failing) {
             self.faults = self.faults.saturating_add(1);
             return Err(IoFault::Failed);
         }
