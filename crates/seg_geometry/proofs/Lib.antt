@@ -1,0 +1,13 @@
+pub mod Ring
+pub mod Gap
+pub mod Exit
+pub mod PointGap
+pub mod WaysOut
+pub mod SegGap
+pub mod Sizes
+pub mod Bridge
+pub mod Decided
+pub mod PointTests
+pub mod MeetTests
+pub mod Frames
+pub mod Laws

@@ -1,0 +1,4 @@
+pub mod Points
+pub mod Apart
+pub mod Ends
+pub mod Rectangles
