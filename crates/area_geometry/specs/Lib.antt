@@ -1,0 +1,3 @@
+pub mod Copper
+pub mod Rings
+pub mod Apart

@@ -1,0 +1,260 @@
+ghost use Rattle.std.specs.Prelude.{◌≡◌, ◌<◌, All, IsTrue};
+ghost use Rattle.seg_geometry.specs.Points.{IsInRange};
+ghost use Rattle.area_geometry.specs.Copper.{copper_of, moved, IsWithinLimits};
+
+use crate::{Core, Shape, ShapeView, Shapes, inside, shape_keeps, touches};
+use seg_geometry::{Points, Pt, Steps, in_range};
+use std::marker::Brand;
+use std::sync::ledger::{Blank, Ledger};
+use std::test::Fail;
+
+fn pt(x: i64, y: i64) -> Pt
+    ensures x { result.x ≡ x }
+    ensures y { result.y ≡ y }
+{
+    Pt { x, y }
+}
+
+fn chain(points: &[Pt], width: u32) -> ShapeView<'_> {
+    ShapeView {
+        layer: 0,
+        area: false,
+        points,
+        width,
+        at: pt(0, 0),
+    }
+}
+
+fn area(points: &[Pt], width: u32) -> ShapeView<'_> {
+    ShapeView {
+        area: true,
+        ..chain(points, width)
+    }
+}
+
+fn moved_to(s: ShapeView<'_>, x: i64, y: i64) -> ShapeView<'_> {
+    ShapeView { at: pt(x, y), ..s }
+}
+
+fn lies_in_range(p: Pt, at: Pt) -> bool
+    ensures { IsTrue result → IsInRange (moved at p) }
+{
+    if !in_range(p) {
+        return false;
+    }
+    if !in_range(at) {
+        return false;
+    }
+    in_range(pt(p.x + at.x, p.y + at.y))
+}
+
+fn all_in_range(points: &[Pt], at: Pt) -> bool
+    ensures { IsTrue result → All (λ p. IsInRange (moved at p)) points.now }
+{
+    points.iter().all(|p| lies_in_range(*p, at))
+}
+
+fn fits(s: ShapeView<'_>) -> bool
+    ensures { IsTrue result → IsWithinLimits (copper_of s.entry) }
+{
+    s.width <= 100_000_000 && all_in_range(s.points, s.at)
+}
+
+/// What `shape_keeps` answers, or None where its condition isn't met.
+fn keeps<L: Ledger>(s: ShapeView<'_>, t: ShapeView<'_>, c: u32, blank: Blank) -> Option<bool>
+    requires name { blank.name ≡ L.name }
+    requires parts { blank.parts ≡ L.parts }
+    requires some { 0 < blank.parts }
+{
+    let mut steps = Steps::<L>::new(blank);
+    if fits(s) && fits(t) && c <= 100_000_000 {
+        return Some(shape_keeps(s, t, c, &mut steps));
+    }
+    None
+}
+
+/// What `touches` answers, or None where its condition isn't met.
+fn reaches<L: Ledger>(s: ShapeView<'_>, ring: &[Pt], blank: Blank) -> Option<bool>
+    requires name { blank.name ≡ L.name }
+    requires parts { blank.parts ≡ L.parts }
+    requires some { 0 < blank.parts }
+{
+    let mut steps = Steps::<L>::new(blank);
+    if fits(s) && ring.iter().all(|p| in_range(*p)) {
+        return Some(touches(s, ring, &mut steps));
+    }
+    None
+}
+
+/// What `inside` answers, or None where its condition isn't met.
+fn lies_inside(p: Pt, ring: &[Pt]) -> Option<bool> {
+    if in_range(p) && ring.iter().all(|q| in_range(*q)) {
+        return Some(inside(p, ring));
+    }
+    None
+}
+
+// By hand: how many edges the ray from the point towards greater x crosses.
+#[test]
+fn a_corner_counts_once(rt: HostRuntime) {
+    let square = [pt(0, 0), pt(10, 0), pt(10, 10), pt(0, 10)];
+    for (v, want) in [
+        (pt(5, 5), true),
+        (pt(0, 0), true),
+        (pt(10, 0), false),
+        (pt(10, 10), false),
+        (pt(0, 10), false),
+        (pt(5, 0), true),
+        (pt(5, 10), false),
+        (pt(0, 5), true),
+        (pt(10, 5), false),
+        (pt(-1, 5), false),
+        (pt(-1, 0), false),
+        (pt(5, -1), false),
+    ] {
+        assert_eq!(rt; lies_inside(v, &square), Some(want), "{v:?} in the square");
+    }
+    let arrow = [pt(0, 0), pt(4, 4), pt(0, 8)];
+    for (v, want) in [
+        (pt(2, 4), true),
+        (pt(-1, 4), false),
+        (pt(4, 4), false),
+        (pt(5, 4), false),
+        (pt(3, 3), false),
+        (pt(2, 3), true),
+    ] {
+        assert_eq!(rt; lies_inside(v, &arrow), Some(want), "{v:?} in the arrow");
+    }
+    let half = [
+        pt(-1_000_000_000, -1_000_000_000),
+        pt(1_000_000_000, -1_000_000_000),
+        pt(1_000_000_000, 1_000_000_000),
+    ];
+    for (v, want) in [(pt(-1, 0), false), (pt(0, 0), true), (pt(1, 0), true)] {
+        assert_eq!(rt; lies_inside(v, &half), Some(want), "{v:?} in the half");
+    }
+}
+
+// By hand.
+#[test]
+fn each_shape_keeps_its_clearance_and_no_more(rt: HostRuntime) {
+    let track = [pt(0, 0), pt(1_000_000, 0)];
+    let above = [pt(0, 450_000), pt(500_000, 450_000), pt(1_000_000, 450_000)];
+    let pour = [
+        pt(0, 0),
+        pt(10_000_000, 0),
+        pt(10_000_000, 10_000_000),
+        pt(0, 10_000_000),
+    ];
+    let island = [
+        pt(4_000_000, 4_000_000),
+        pt(6_000_000, 4_000_000),
+        pt(5_000_000, 6_000_000),
+    ];
+    let fence = [
+        pt(0, 0),
+        pt(10_000_000, 0),
+        pt(10_000_000, 10_000_000),
+        pt(0, 10_000_000),
+        pt(0, 0),
+    ];
+    let hole = [pt(5_000_000, 5_000_000)];
+    let beside = moved_to(area(&pour, 0), 10_000_100, 0);
+    let wide = moved_to(area(&pour, 50), 10_000_100, 0);
+    let other_layer = ShapeView {
+        layer: 1,
+        ..chain(&hole, 100)
+    };
+    for (s, t, c, want) in [
+        (
+            chain(&track, 250_000),
+            chain(&above, 250_000),
+            200_000,
+            true,
+        ),
+        (
+            chain(&track, 250_000),
+            chain(&above, 250_000),
+            200_001,
+            false,
+        ),
+        (
+            chain(&track, 250_000),
+            moved_to(chain(&track, 250_000), 0, 450_000),
+            200_000,
+            true,
+        ),
+        (
+            chain(&track, 250_000),
+            moved_to(chain(&track, 250_000), 0, 449_999),
+            200_000,
+            false,
+        ),
+        (area(&pour, 0), chain(&hole, 100), 0, false),
+        (area(&pour, 0), other_layer, 0, true),
+        (
+            area(&pour, 0),
+            moved_to(chain(&hole, 100), 10_000_000, 0),
+            0,
+            true,
+        ),
+        (area(&pour, 0), area(&island, 0), 0, false),
+        (chain(&fence, 0), area(&island, 0), 1_000_000, true),
+        (
+            area(&pour, 0),
+            moved_to(area(&pour, 0), 10_000_000, 0),
+            0,
+            true,
+        ),
+        (
+            area(&pour, 0),
+            moved_to(area(&pour, 0), 10_000_000, 0),
+            1,
+            false,
+        ),
+        (area(&pour, 0), beside, 100, true),
+        (area(&pour, 0), beside, 101, false),
+        (area(&pour, 0), wide, 75, true),
+        (area(&pour, 0), wide, 76, false),
+    ] {
+        assert_eq!(rt;
+            keeps::<Brand>(s, t, c, Blank::new(1)),
+            Some(want),
+            "{s:?} {t:?} at {c}"
+        );
+        assert_eq!(rt;
+            keeps::<Brand>(t, s, c, Blank::new(1)),
+            Some(want),
+            "{t:?} {s:?} at {c}"
+        );
+    }
+}
+
+// By hand.
+#[test]
+fn shapes_touch_what_they_reach(rt: HostRuntime) -> Result<(), Fail> {
+    let pour = [pt(0, 0), pt(10, 0), pt(10, 10), pt(0, 10)];
+    let spot = [pt(0, 0)];
+    for (x, width, want) in [
+        (5, 0, true),
+        (10, 0, true),
+        (11, 0, false),
+        (11, 1, true),
+        (12, 1, false),
+    ] {
+        let shape = moved_to(chain(&spot, width), x, 5);
+        assert_eq!(rt;
+            reaches::<Brand>(shape, &pour, Blank::new(1)),
+            Some(want),
+            "at {x} with width {width}"
+        );
+    }
+    let mut shapes = Shapes::new(rt.alloc());
+    shapes.push(Shape {
+        layer: 3,
+        core: Core::Chain(Points::from_slice(rt.alloc(), &spot)?),
+        width: 7,
+    })?;
+    assert_eq!(rt; shapes.get(0).layer, 3, "the layer of a shape in a list");
+    Ok(())
+}
