@@ -1,0 +1,13 @@
+pub mod Forest
+pub mod Shows
+pub mod Words
+pub mod Text
+pub mod Results
+pub mod Scan
+pub mod Tree
+pub mod Build
+pub mod Nodes
+pub mod Trees
+pub mod NumberTexts
+pub mod NumberParts
+pub mod Lengths
