@@ -1,0 +1,64 @@
+//! Items that are borrowed.
+ghost use Rattle.std.specs.Prelude.{◌≡◌, ◌<◌, IfSome, IfNone};
+ghost use Rattle.board_items.specs.Adds.{layer_of_add, item_of_add, item_seen};
+
+use crate::items::Item;
+use crate::requests::Add;
+use seg_geometry::Pt;
+
+/// A borrowed item, as `Item`.
+#[derive(Clone, Copy, Debug)]
+pub enum ItemView<'a> {
+    Wire {
+        net: u32,
+        layer: u8,
+        width: u32,
+        points: &'a [Pt],
+        fix: bool,
+    },
+}
+
+/// The item, borrowed.
+pub fn view(item: &Item) -> ItemView<'_>
+    ensures { item_seen result ≡ item.now }
+{
+    match item {
+        Item::Wire {
+            net,
+            layer,
+            width,
+            points,
+            fix,
+        } => ItemView::Wire {
+            net: *net,
+            layer: *layer,
+            width: *width,
+            points: points.as_slice(),
+            fix: *fix,
+        },
+    }
+}
+
+/// The item that an add makes, which isn't fixed; none where a wire's layer is above 255.
+pub fn view_add(add: &Add) -> Option<ItemView<'_>>
+    ensures some { IfSome result (λ seen. item_seen seen ≡ item_of_add add.now) }
+    ensures none { IfNone result (255 < layer_of_add add.now) }
+{
+    match add {
+        Add::Wire {
+            net,
+            layer,
+            width,
+            points,
+        } => {
+            let layer = u8::try_from(*layer).ok()?;
+            Some(ItemView::Wire {
+                net: *net,
+                layer,
+                width: *width,
+                points: points.as_slice(),
+                fix: false,
+            })
+        }
+    }
+}
