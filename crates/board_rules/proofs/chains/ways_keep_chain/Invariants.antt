@@ -1,0 +1,14 @@
+use Rattle.std.proofs.Common.{drop}
+use Rattle.std.specs.Prelude.{◌↔◌}
+use Rattle.std.specs.List.{AllByRecursion}
+use Rattle.seg_geometry.specs.Points.{IsInRange}
+use Rattle.board_rules.specs.Chains.{ways, KeepsFromChain}
+use Rattle.board_rules.proofs.chains.ways_keep_chain.Given as goal
+
+-- The ways that are left keep the distance exactly where all ways do.
+abbrev pub invariant-loop-next : goal.invariant-loop-next
+invariant-loop-next g l = record {
+  last_in : IsInRange l.last;
+  left_in : AllByRecursion IsInRange (drop l.next-index l.others);
+  same : AllByRecursion (λ s. KeepsFromChain s l.chain l.k) (ways l.last (drop l.next-index l.others)) ↔ AllByRecursion (λ s. KeepsFromChain s l.chain l.k) (ways l.initial.last l.others);
+}
