@@ -1,0 +1,4 @@
+pub mod Lists
+pub mod Boards
+pub mod Answers
+pub mod Journals
