@@ -1,0 +1,5 @@
+pub mod Digits
+pub mod LineFeeds
+pub mod Parts
+pub mod PointTexts
+pub mod StepTexts
