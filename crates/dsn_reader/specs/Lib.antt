@@ -1,0 +1,4 @@
+pub mod Keywords
+pub mod Names
+pub mod Form
+pub mod Reading

@@ -1,0 +1,13 @@
+-- Models: names that differ from one another.
+-- Cited by: `NameSet`, `read_design`.
+use Rattle.std.specs.Prelude.{◌≡◌, ℕ, Bool, false, List, ◌∷◌, ◌++◌}
+use Rattle.std.specs.List.{list_any}
+use Rattle.std.specs.Str.{bytes_eq}
+
+-- the name stands in the list
+abbrev pub is_among : List ℕ → List (List ℕ) → Bool
+is_among name names = list_any (bytes_eq name) names
+
+-- no name stands behind itself
+abbrev pub AreDistinct : List (List ℕ) → Type 0
+AreDistinct names = (before after : List (List ℕ)) (name : List ℕ) → names ≡ before ++ name ∷ after → is_among name before ≡ false
