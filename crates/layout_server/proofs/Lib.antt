@@ -1,0 +1,14 @@
+pub mod Asks
+pub mod Breaks
+pub mod Files
+pub mod Journals
+pub mod Loads
+pub mod Ready
+pub mod Runs
+pub mod Sinks
+pub mod Steps
+pub mod Stores
+pub mod Tells
+pub mod Tolds
+pub mod Unique
+pub mod Words

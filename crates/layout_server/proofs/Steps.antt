@@ -1,0 +1,65 @@
+-- The first line of a script, and the lines so far.
+use Rattle.std.proofs.Common.{◌≡◌, ◌≢◌, ℕ, ◌+◌, ◌<◌, ◌≤◌, List, [], ◌∷◌, ◌++◌, length, refl, sym, ap, subst, ◌∙◌, append_assoc, arith, length-append}
+use Rattle.std.specs.List.{AllByRecursion, flat_map}
+use Rattle.board_rules.specs.declared.design.Design.{Design}
+use Rattle.session_wire.specs.declared.steps.ScriptStep.{ScriptStep}
+use Rattle.session_wire.specs.Lines.{step_text, step_line}
+use Rattle.session_wire.specs.Steps.{IsLine, IsStep, Reads}
+use Rattle.session_wire.proofs.LineFeeds.{step_is_one_line}
+use Rattle.session_wire.proofs.StepTexts.{one_step}
+use Rattle.layout_server.specs.Scripts.{IsServed, IsServedRequest, IsScript, IsFirstBad, IsBad, IsBadRest, request_of}
+use Rattle.layout_server.specs.Lines.{HasNoStep}
+use Rattle.layout_server.proofs.Breaks.{one_line}
+
+split_text : (s : ScriptStep) (text more : List ℕ) → text ≡ step_line s ++ more → text ≡ step_text s ++ 10 ∷ more
+split_text s text more e = e ∙ append_assoc (step_text s) (10 ∷ []) more
+
+-- a text without a line feed begins with no step's line
+pub no_line : (d : Design) (text : List ℕ) → ((line more : List ℕ) → text ≢ line ++ 10 ∷ more) → HasNoStep d text
+no_line d text none s more served e = none (step_text s) more (split_text s text more e)
+
+-- a first line that spells no step
+pub no_step : (d : Design) (text line after : List ℕ) → IsLine line → text ≡ line ++ 10 ∷ after → ((s : ScriptStep) → IsServed d s → line ≡ step_text s → ⊥) → HasNoStep d text
+no_step d text line after is parts none s more served e =
+    let same = one_line line (step_text s) after more is (step_is_one_line s served.step) (sym parts ∙ split_text s text more e) in
+    none s served same.0
+
+-- a first line that spells a step
+pub step_first : (s : ScriptStep) (text line after : List ℕ) → text ≡ line ++ 10 ∷ after → line ≡ step_text s → text ≡ step_line s ++ after
+step_first s text line after parts is = parts ∙ ap (λ (x : List ℕ). x ++ 10 ∷ after) is ∙ sym (append_assoc (step_text s) (10 ∷ []) after)
+
+-- a line spells no other step than the one that it spells
+pub no_other : (d : Design) (line : List ℕ) (t : ScriptStep) → Reads line t → (IsServedRequest d (request_of t) → ⊥) → (s : ScriptStep) → IsServed d s → line ≡ step_text s → ⊥
+no_other d line t reads not_served s served e =
+    let same : s ≡ t = one_step s t served.step reads.formed (sym e ∙ reads.spelled) in
+    not_served (subst (λ (x : ScriptStep). IsServedRequest d (request_of x)) same served.served)
+
+pub served_more : (d : Design) (steps : List ScriptStep) (s : ScriptStep) → AllByRecursion (IsServed d) steps → IsServed d s → AllByRecursion (IsServed d) (steps ++ s ∷ [])
+served_more d [] s all here = (here, tt)
+served_more d (x ∷ xs) s all here = (all.0, served_more d xs s all.1 here)
+
+flat_more : (steps : List ScriptStep) (s : ScriptStep) (rest : List ℕ) → flat_map step_line (steps ++ s ∷ []) ++ rest ≡ flat_map step_line steps ++ (step_line s ++ rest)
+flat_more [] s rest = append_assoc (step_line s) [] rest
+flat_more (x ∷ xs) s rest =
+    append_assoc (step_line x) (flat_map step_line (xs ++ s ∷ [])) rest ∙ ap (λ (y : List ℕ). step_line x ++ y) (flat_more xs s rest) ∙ sym (append_assoc (step_line x) (flat_map step_line xs) (step_line s ++ rest))
+
+-- one line more
+pub text_more : (steps : List ScriptStep) (s : ScriptStep) (text rest after : List ℕ) → text ≡ flat_map step_line steps ++ rest → rest ≡ step_line s ++ after → text ≡ flat_map step_line (steps ++ s ∷ []) ++ after
+text_more steps s text rest after e f = e ∙ ap (λ (y : List ℕ). flat_map step_line steps ++ y) f ∙ sym (flat_more steps s after)
+
+length_line : (s : ScriptStep) (rest : List ℕ) → 0 < length (step_line s ++ rest)
+length_line s rest = omega (arith, length-append (step_line s) rest, length-append (step_text s) (10 ∷ []))
+
+pub one_list : (d : Design) (a b : List ScriptStep) → AllByRecursion (IsServed d) a → AllByRecursion (IsServed d) b → flat_map step_line a ≡ flat_map step_line b → a ≡ b
+one_list d [] [] p q e = refl
+one_list d [] (t ∷ ts) p q e = absurd (omega (arith, length_line t (flat_map step_line ts), ap length e))
+one_list d (s ∷ ss) [] p q e = absurd (omega (arith, length_line s (flat_map step_line ss), ap length e))
+one_list d (s ∷ ss) (t ∷ ts) p q e =
+    let lines = one_line (step_text s) (step_text t) (flat_map step_line ss) (flat_map step_line ts) (step_is_one_line s p.0.step) (step_is_one_line t q.0.step)
+    (sym (append_assoc (step_text s) (10 ∷ []) (flat_map step_line ss)) ∙ e ∙ append_assoc (step_text t) (10 ∷ []) (flat_map step_line ts)) in
+    let head : s ≡ t = one_step s t p.0.step q.0.step lines.0 in
+    let tail : ss ≡ ts = one_list d ss ts p.1 q.1 lines.1 in
+    cc
+
+pub one_script : (d : Design) (text : List ℕ) (a b : List ScriptStep) → IsScript d text a → IsScript d text b → a ≡ b
+one_script d text a b p q = one_list d a b p.served q.served (sym p.spelled ∙ q.spelled)

@@ -1,0 +1,110 @@
+-- What `replay` leaves at its end, and what at a stop.
+use Rattle.std.specs.Prelude.{◌≡◌, ◌⊎◌, ◌<◌, ◌≤◌, ℕ, Bool, false, List, [], ◌∷◌, ◌++◌, length, take, Option, Some, None, IfSome}
+use Rattle.std.specs.Io.KnownBytes.{Appends}
+use Rattle.layout_io.specs.Causes.{Rose}
+use Rattle.layout_io.specs.Told.{Disk, Told, SameBut, bytes_of}
+use Rattle.board_rules.specs.declared.design.Design.{Design as Board}
+use Rattle.session_wire.specs.declared.steps.ScriptStep.{ScriptStep}
+use Rattle.dsn_reader.specs.Form.{IsDesign}
+use Rattle.layout_server.specs.Words.{Names}
+use Rattle.layout_server.specs.Outside.{Begins}
+use Rattle.layout_server.specs.Scripts.{IsScript, IsBad}
+use Rattle.layout_server.specs.Replays.{IsRunOf}
+use Rattle.layout_server.specs.Causes.{status_of, stop_line}
+use Rattle.layout_server.specs.declared.stop.Stop.{Stop}
+use Rattle.layout_server.specs.declared.stop.Stop.TheVariants.{Design, Read, Write, Script, Memory}
+
+-- the file under the name spells this design
+abbrev pub HasDesign : List ℕ → Board → Disk → Type 0
+HasDesign name d disk = (bytes : List ℕ) × (bytes_of disk.files name ≡ Some bytes) × IsDesign bytes d
+
+-- the file under the name spells no design
+abbrev pub HasNoDesign : List ℕ → Disk → Type 0
+HasNoDesign name disk = (bytes : List ℕ) × (bytes_of disk.files name ≡ Some bytes) × ((d : Board) → IsDesign bytes d → ⊥)
+
+-- the file under the name is the lines of these steps
+abbrev pub HasSteps : List ℕ → Board → List ScriptStep → Disk → Type 0
+HasSteps name d steps disk = (text : List ℕ) × (bytes_of disk.files name ≡ Some text) × IsScript d text steps
+
+-- the file under the name is no script, and this is told
+abbrev pub HasBadLine : List ℕ → Board → ℕ → Disk → Type 0
+HasBadLine name d k disk = (text : List ℕ) × (bytes_of disk.files name ≡ Some text) × IsBad d text k
+
+-- both files have their readings
+abbrev pub HasInputs : Names → Board → List ScriptStep → Disk → Type 0
+HasInputs names d steps disk = HasDesign names.design d disk × HasSteps names.script d steps disk
+
+-- the session file has these bytes, and other files stayed
+abbrev pub HasSession : List ℕ → List ℕ → Disk → Disk → Type 0
+HasSession name bytes old new = (bytes_of new.files name ≡ Some bytes) × SameBut name old.files new.files
+
+-- the output and the session file are those of the script's steps for the design
+pub record Replays (names : Names) (old new : Option Disk) (before after : Option (List ℕ)) : Type 0 where
+  pub design : Board
+  pub steps : List ScriptStep
+  pub output : List ℕ
+  pub session : List ℕ
+  pub run : IsRunOf design steps output session
+  pub inputs : IfSome old (HasInputs names design steps)
+  pub out : Appends before after output
+  pub file : Told old new (HasSession names.session session)
+
+-- nothing was written, and no file changed
+abbrev pub Untouched : Option Disk → Option Disk → Option (List ℕ) → Option (List ℕ) → Type 0
+Untouched old new before now = (now ≡ before) × Told old new (λ d e. e.files ≡ d.files)
+
+-- nothing was written but that the session file was made; it is empty
+abbrev pub OnlyMade : List ℕ → Option Disk → Option Disk → Option (List ℕ) → Option (List ℕ) → Type 0
+OnlyMade name old new before now = (now ≡ before) × Told old new (HasSession name [])
+
+-- the front of a session text of at most m bytes is in the session file
+abbrev pub HasFront : List ℕ → List ℕ → ℕ → Disk → Disk → Type 0
+HasFront name session m old new = HasSession name (take m session) old new
+
+-- a front of the output was written, and, only behind the whole output, a front of the session text
+pub record PartOfRun (names : Names) (old new : Option Disk) (before now : Option (List ℕ)) : Type 0 where
+  pub design : Board
+  pub steps : List ScriptStep
+  pub output : List ℕ
+  pub session : List ℕ
+  pub run : IsRunOf design steps output session
+  pub n : ℕ
+  pub m : ℕ
+  pub out : Appends before now (take n output)
+  pub file : Told old new (HasFront names.session session m)
+  pub order : n < length output → m ≡ 0
+
+-- what a stop leaves written, before its line
+abbrev pub Leaves : Names → Option Disk → Option Disk → Option (List ℕ) → Option (List ℕ) → Stop → Type 0
+Leaves names old new before now Design = Untouched old new before now
+Leaves names old new before now Read = Untouched old new before now
+Leaves names old new before now Write = Untouched old new before now ⊎ (OnlyMade names.session old new before now ⊎ PartOfRun names old new before now)
+Leaves names old new before now (Script k) = Untouched old new before now
+Leaves names old new before now Memory = Untouched old new before now ⊎ (OnlyMade names.session old new before now ⊎ PartOfRun names old new before now)
+
+-- why `replay` stops
+abbrev pub StopCause : Names → Option Disk → Stop → Type 0
+StopCause names old Design = IfSome old (HasNoDesign names.design)
+StopCause names old Read = Unit {0}
+StopCause names old Write = (d : Board) × (steps : List ScriptStep) × IfSome old (HasInputs names d steps)
+StopCause names old (Script k) = (d : Board) × IfSome old (λ disk. HasDesign names.design d disk × HasBadLine names.script d k disk)
+StopCause names old Memory = Unit {0}
+
+-- a line is written, whole unless the sink's count rose or a write met want of memory
+pub record Tells (line : List ℕ) (before after : Option (List ℕ)) (faults_before faults : ℕ) (ran_out : Bool) : Type 0 where
+  pub begins : Begins line before after
+  pub whole : (Rose faults_before faults → ⊥) → ran_out ≡ false → Appends before after line
+
+-- why `replay` stopped, what it had left, and its line
+pub record Stops (names : Names) (old new : Option Disk) (before after : Option (List ℕ)) (faults : ℕ) (ran_out : Bool) (status : ℕ) : Type 0 where
+  pub stop : Stop
+  pub status_is : status ≡ status_of stop
+  pub cause : StopCause names old stop
+  pub mid : Option (List ℕ)
+  pub left : Leaves names old new before mid stop
+  pub mid_faults : ℕ
+  pub line : Tells (stop_line stop) mid after mid_faults faults ran_out
+
+-- the statuses that are given
+abbrev pub IsStatus : ℕ → Type 0
+IsStatus status = (status ≤ 5) ⊎ (status ≡ 7)

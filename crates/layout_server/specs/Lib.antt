@@ -1,0 +1,10 @@
+pub mod Words
+pub mod Outside
+pub mod Scripts
+pub mod Lines
+pub mod Masters
+pub mod Replays
+pub mod Causes
+pub mod Headline
+pub mod Loads
+pub mod Stores

@@ -1,0 +1,140 @@
+//! The design and the script are read.
+ghost use Rattle.std.specs.Prelude.{◌≡◌, ◌++◌, ◌∷◌, [], ◌≤◌, IfOk, OnOk, IfErr, length};
+ghost use Rattle.std.specs.List.{AllByRecursion};
+ghost use Rattle.layout_io.specs.Told.{Told};
+ghost use Rattle.layout_server.specs.Words.{Asked};
+ghost use Rattle.layout_server.specs.Outside.{IsFound, SameFiles};
+ghost use Rattle.layout_server.specs.Scripts.{IsServed};
+ghost use Rattle.layout_server.specs.Causes.{ReadCause};
+ghost use Rattle.layout_server.specs.Headline.{HasDesign, HasSteps};
+ghost use Rattle.layout_server.specs.Loads.{FileCause, DesignCause, ScriptCause, DesignStop, ScriptStop, LoadStop, GivesDesign, GivesSteps, IsToday, IsLoaded};
+
+use crate::outside::{Found, read_all};
+use crate::script::{SCRIPT_LIMIT, ScriptFault, read_script};
+use crate::stop::Stop;
+use board_rules::Design;
+use dsn_reader::{ReadWhy, read_design};
+use layout_io::{Files, IoFault};
+use session_wire::ScriptSteps;
+use std::alloc::Global;
+
+/// How many bytes a design may have.
+const DESIGN_LIMIT: usize = 67_108_864;
+
+/// The design and the script's steps.
+#[derive(Debug, Drop)]
+pub struct Loaded {
+    pub design: Design,
+    pub steps: ScriptSteps,
+}
+
+// All bytes of a file, unless there are too many, or why there are none.
+fn read_file<F: Files>(alloc: Global, files: &mut F, name: &str, most: usize) -> Result<Found, Stop>
+    ensures found { IfOk result (λ found. Told (F.disk files.old) (F.disk files.new) (IsFound name.now most found)) }
+    ensures asked { Asked (name.now ∷ []) (F.asked files.old) (F.asked files.new) }
+    ensures asked_ok { OnOk result (F.asked files.new ≡ F.asked files.old ++ name.now ∷ []) }
+    ensures kept { Told (F.disk files.old) (F.disk files.new) SameFiles }
+    ensures cause { IfErr result FileCause }
+    ensures read { ReadCause (F.read_faults files.old) (F.read_faults files.new) result }
+    ensures write { F.write_faults files.new ≡ F.write_faults files.old }
+{
+    match read_all(alloc, files, name, most) {
+        Ok(found) => Ok(found),
+        Err(IoFault::Failed) => Err(Stop::Read),
+        Err(IoFault::Memory) => Err(Stop::Memory),
+    }
+}
+
+// The design that was found.
+#[tactic(auto, using(crate::proofs::Loads::today_of))]
+fn design_of(alloc: Global, found: &Found) -> Result<Design, Stop>
+    ensures ok { IfOk result (GivesDesign found.now) }
+    ensures today { IfOk result IsToday }
+    ensures cause { IfErr result (DesignCause found.now) }
+{
+    match found {
+        Found::Long => Err(Stop::Design),
+        Found::Whole(bytes) => match read_design(alloc, bytes.as_slice()) {
+            Ok(design) => Ok(design),
+            Err(ReadWhy::Fault(_)) => Err(Stop::Design),
+            Err(ReadWhy::Memory) => Err(Stop::Memory),
+        },
+    }
+}
+
+// The steps that were found.
+fn steps_of(alloc: Global, design: &Design, found: &Found) -> Result<ScriptSteps, Stop>
+    ensures ok { IfOk result (GivesSteps design.now found.now) }
+    ensures served { IfOk result (AllByRecursion (IsServed design.now)) }
+    ensures few { IfOk result (λ steps. length steps ≤ 500) }
+    ensures cause { IfErr result (ScriptCause design.now found.now) }
+{
+    match found {
+        Found::Long => Err(Stop::Script(0)),
+        Found::Whole(bytes) => match read_script(alloc, design, bytes.as_slice()) {
+            Ok(steps) => Ok(steps),
+            Err(ScriptFault::Line(line)) => Err(Stop::Script(line)),
+            Err(ScriptFault::Memory) => Err(Stop::Memory),
+        },
+    }
+}
+
+// The design of the file under the name.
+#[tactic(auto, using(crate::proofs::Loads::told_design, crate::proofs::Loads::design_stop))]
+fn load_design<F: Files>(alloc: Global, files: &mut F, name: &str) -> Result<Design, Stop>
+    ensures ok { IfOk result (λ design. Told (F.disk files.old) (F.disk files.new) (λ d e. HasDesign name.now design d)) }
+    ensures today { IfOk result IsToday }
+    ensures cause { IfErr result (DesignStop name.now (F.disk files.old)) }
+    ensures kept { Told (F.disk files.old) (F.disk files.new) SameFiles }
+    ensures asked { Asked (name.now ∷ []) (F.asked files.old) (F.asked files.new) }
+    ensures asked_ok { OnOk result (F.asked files.new ≡ F.asked files.old ++ name.now ∷ []) }
+    ensures read { ReadCause (F.read_faults files.old) (F.read_faults files.new) result }
+    ensures write { F.write_faults files.new ≡ F.write_faults files.old }
+{
+    let found = read_file(alloc, files, name, DESIGN_LIMIT)?;
+    design_of(alloc, &found)
+}
+
+// The steps of the script under the name.
+#[tactic(auto, using(crate::proofs::Loads::told_steps, crate::proofs::Loads::script_stop))]
+fn load_script<F: Files>(
+    alloc: Global,
+    files: &mut F,
+    design: &Design,
+    name: &str,
+) -> Result<ScriptSteps, Stop>
+    ensures ok { IfOk result (λ steps. Told (F.disk files.old) (F.disk files.new) (λ d e. HasSteps name.now design.now steps d)) }
+    ensures served { IfOk result (AllByRecursion (IsServed design.now)) }
+    ensures few { IfOk result (λ steps. length steps ≤ 500) }
+    ensures cause { IfErr result (ScriptStop name.now design.now (F.disk files.old)) }
+    ensures kept { Told (F.disk files.old) (F.disk files.new) SameFiles }
+    ensures asked { Asked (name.now ∷ []) (F.asked files.old) (F.asked files.new) }
+    ensures asked_ok { OnOk result (F.asked files.new ≡ F.asked files.old ++ name.now ∷ []) }
+    ensures read { ReadCause (F.read_faults files.old) (F.read_faults files.new) result }
+    ensures write { F.write_faults files.new ≡ F.write_faults files.old }
+{
+    let found = read_file(alloc, files, name, SCRIPT_LIMIT)?;
+    steps_of(alloc, design, &found)
+}
+
+/// Reads the design and the script.
+#[tactic(auto, using(crate::proofs::Loads::both_inputs, crate::proofs::Loads::script_stop_behind, crate::proofs::Loads::design_stop_first))]
+pub fn load<F: Files>(
+    alloc: Global,
+    files: &mut F,
+    design: &str,
+    script: &str,
+) -> Result<Loaded, Stop>
+    ensures inputs { IfOk result (λ l. Told (F.disk files.old) (F.disk files.new) (λ d e. HasDesign design.now l.design d × HasSteps script.now l.design l.steps d)) }
+    ensures loaded { IfOk result IsLoaded }
+    ensures cause { IfErr result (LoadStop design.now script.now (F.disk files.old)) }
+    ensures kept { Told (F.disk files.old) (F.disk files.new) SameFiles }
+    ensures asked { Asked (design.now ∷ script.now ∷ []) (F.asked files.old) (F.asked files.new) }
+    ensures asked_ok { OnOk result (F.asked files.new ≡ F.asked files.old ++ design.now ∷ script.now ∷ []) }
+    ensures read { ReadCause (F.read_faults files.old) (F.read_faults files.new) result }
+    ensures write { F.write_faults files.new ≡ F.write_faults files.old }
+{
+    let design = load_design(alloc, files, design)?;
+    let steps = load_script(alloc, files, &design, script)?;
+    Ok(Loaded { design, steps })
+}

@@ -1,0 +1,127 @@
+//! A script as its steps.
+ghost use Rattle.std.specs.Prelude.{◌≡◌, ◌≢◌, ◌+◌, ◌<◌, ◌≤◌, ◌++◌, ◌∷◌, [], List, ℕ, IfOk, OnOk, IfErr, IfSome, IfNone, MatchOption, IsTrue, length, ◌==◌};
+ghost use Rattle.std.specs.List.{position};
+ghost use Rattle.session_wire.specs.Lines.{step_line};
+ghost use Rattle.session_wire.specs.Steps.{IsLine};
+ghost use Rattle.session_wire.specs.declared.steps.ScriptStep.{ScriptStep};
+ghost use Rattle.layout_server.specs.Scripts.{IsServed, IsScript, IsBad};
+ghost use Rattle.layout_server.specs.Lines.{WhyBad, IsFirstStep, HasNoStep};
+
+use crate::form::is_served;
+use board_rules::Design;
+use layout_io::Row;
+use session_wire::{ScriptStep, ScriptSteps, read_step};
+use std::alloc::{AllocError, Global};
+
+/// How many bytes a script may have.
+pub const SCRIPT_LIMIT: usize = 67_108_864;
+
+/// How many lines a script may have.
+const LINE_LIMIT: usize = 500;
+
+/// Why a script is refused.
+#[derive(Clone, Copy, Debug, PartialEq, Eq)]
+pub enum ScriptFault {
+    /// The first line without a reading, from 1; 0 where the script is too long.
+    Line(u64),
+    /// Memory ran out.
+    Memory,
+}
+
+impl From<AllocError> for ScriptFault {
+    ghost use Rattle.layout_server.specs.declared.script.ScriptFault.TheVariants.{Memory};
+
+    ghost from_gives = { λ _ e. e ≡ Memory };
+
+    fn from(_e: AllocError) -> ScriptFault {
+        ScriptFault::Memory
+    }
+}
+
+fn break_of(text: &[u8]) -> Option<usize>
+    ensures { result ≡ position (λ b. b == 10) text.now }
+{
+    text.iter().position(|b| *b == b'\n')
+}
+
+// The first line without its end, and what follows it.
+fn split_line(text: &[u8]) -> Option<(&[u8], &[u8])>
+    ensures { MatchOption result ((line more : List ℕ) → text.now ≢ line ++ 10 ∷ more) (λ x. IsLine x.0.now × (text.now ≡ x.0.now ++ 10 ∷ x.1.now)) }
+{
+    let end = break_of(text)?;
+    let (line, rest) = text.split_at(end);
+    let (_, after) = rest.split_at(1);
+    Some((line, after))
+}
+
+// The step that a line spells, where it is of today's form.
+fn served_step(
+    alloc: Global,
+    design: &Design,
+    line: &[u8],
+) -> Result<Option<ScriptStep>, AllocError>
+    ensures { IfOk result (IsFirstStep design.now line.now) }
+{
+    match read_step(alloc, line)? {
+        None => Ok(None),
+        Some(step) => {
+            if is_served(design, &step) {
+                Ok(Some(step))
+            } else {
+                Ok(None)
+            }
+        }
+    }
+}
+
+// The step of the first line, and what follows the line.
+fn first_step<'a>(
+    alloc: Global,
+    design: &Design,
+    text: &'a [u8],
+) -> Result<Option<(ScriptStep, &'a [u8])>, AllocError>
+    ensures some { IfOk result (λ o. IfSome o (λ x. IsServed design.now x.0 × (text.now ≡ step_line x.0 ++ x.1.now))) }
+    ensures none { IfOk result (λ o. IfNone o (HasNoStep design.now text.now)) }
+{
+    match split_line(text) {
+        None => Ok(None),
+        Some((line, after)) => match served_step(alloc, design, line)? {
+            None => Ok(None),
+            Some(step) => Ok(Some((step, after))),
+        },
+    }
+}
+
+// The steps of a script that isn't too long.
+fn read_lines(alloc: Global, design: &Design, text: &[u8]) -> Result<ScriptSteps, ScriptFault>
+    requires { length text.now ≤ 67108864 }
+    ensures ok { IfOk result (IsScript design.now text.now) }
+    ensures err { IfErr result (WhyBad design.now text.now) }
+{
+    let mut steps = Row::new(alloc);
+    let mut rest = text;
+    while !rest.is_empty() {
+        if steps.len() == LINE_LIMIT {
+            return Err(ScriptFault::Line(LINE_LIMIT as u64 + 1));
+        }
+        match first_step(alloc, design, rest)? {
+            None => return Err(ScriptFault::Line(steps.len() as u64 + 1)),
+            Some((step, after)) => {
+                steps.push(step)?;
+                rest = after;
+            }
+        }
+    }
+    Ok(steps)
+}
+
+/// The steps of a script for a design, or the first line that isn't one.
+pub fn read_script(alloc: Global, design: &Design, text: &[u8]) -> Result<ScriptSteps, ScriptFault>
+    ensures ok { IfOk result (IsScript design.now text.now) }
+    ensures err { IfErr result (WhyBad design.now text.now) }
+{
+    if text.len() > SCRIPT_LIMIT {
+        return Err(ScriptFault::Line(0));
+    }
+    read_lines(alloc, design, text)
+}

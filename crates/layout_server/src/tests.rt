@@ -1,0 +1,224 @@
+use crate::run::run;
+use layout_io::{MemFiles, MemSink};
+use std::alloc::{AllocError, Global};
+use std::test::Fail;
+
+const DESIGN: &str =
+    "(pcb s.dsn (unit um) (structure (layer L1 (type signal)) (rule (width 100) (clearance 200))) (network (net A) (net B) (net C)))";
+
+const FIRST: &str = "do 1 edit 0 1 wire 0 0 250000 2 0 0 1000000 0\n";
+
+const SCRIPT: &str = "do 1 edit 0 1 wire 0 0 250000 2 0 0 1000000 0
+do 2 edit 0 1 wire 1 0 250000 2 0 450000 1000000 450000
+";
+
+const OUTPUT: &str = "1 ok 1
+2 ok 2
+journal 2
+entry 1 1 edit 0 1 wire 0 0 250000 2 0 0 1000000 0
+entry 2 2 edit 0 1 wire 1 0 250000 2 0 450000 1000000 450000
+";
+
+const SESSION: &str = "(session s.dsn
+  (base_design s.dsn)
+  (routes
+    (resolution um 1000)
+    (parser
+      (host_cad layout_server)
+      (host_version 1)
+    )
+    (library_out
+    )
+    (network_out
+      (net A
+        (wire
+          (path L1 250000
+            0 0
+            1000000 0
+          )
+        )
+      )
+      (net B
+        (wire
+          (path L1 250000
+            0 450000
+            1000000 450000
+          )
+        )
+      )
+    )
+  )
+)
+";
+
+fn words_of(alloc: Global, words: &[&str]) -> Result<Vec<String>, AllocError> {
+    let mut list = Vec::new(alloc);
+    for word in words {
+        list.push(String::from_str(alloc, word)?)?;
+    }
+    Ok(list)
+}
+
+fn replay_words(alloc: Global) -> Result<Vec<String>, AllocError> {
+    words_of(alloc, &["replay", "s.dsn", "s.script", "s.ses"])
+}
+
+fn files_of(alloc: Global, design: &str, script: &str) -> Result<MemFiles, AllocError> {
+    let mut files = MemFiles::new(alloc);
+    files.put("s.dsn", design.as_bytes())?;
+    files.put("s.script", script.as_bytes())?;
+    Ok(files)
+}
+
+// What was written, as bytes that an assertion can show.
+fn session_of(files: &MemFiles) -> &[u8] {
+    match files.bytes_of("s.ses") {
+        Some(bytes) => bytes,
+        None => b"none".as_slice(),
+    }
+}
+
+// The file of the two wires that just keep their clearance, by hand from the layout of a session.
+#[test]
+fn a_clearance_of_450000_is_kept_in_pieces_of_any_size(rt: HostRuntime) -> Result<(), Fail> {
+    let alloc = rt.alloc();
+    for most in [1, 7, 16, 4096] {
+        let mut files = files_of(alloc, DESIGN, SCRIPT)?;
+        files.set_piece(most);
+        let mut out = MemSink::new(alloc);
+        let status = run(alloc, &replay_words(alloc)?, &mut files, &mut out);
+        assert_eq!(rt; status, 0, "pieces of {most}");
+        assert_eq!(rt; out.written(), OUTPUT.as_bytes(), "pieces of {most}");
+        assert_eq!(rt; session_of(&files), SESSION.as_bytes(), "pieces of {most}");
+    }
+    Ok(())
+}
+
+// By hand: the failing side and its neighbour of each bound, and the statuses with their lines.
+#[test]
+fn statuses_have_their_lines(rt: HostRuntime) -> Result<(), Fail> {
+    let alloc = rt.alloc();
+    for (design, script, status, output) in [
+        (DESIGN, "", 0, "journal 0\n"),
+        (
+            DESIGN,
+            "do 1 edit 0 1 wire 0 0 250000 2 0 0 1000000 0\ndo 2 edit 0 1 wire 1 0 250000 2 0 449999 1000000 449999\n",
+            0,
+            "1 ok 1\n2 no clash 1 1\njournal 1\nentry 1 1 edit 0 1 wire 0 0 250000 2 0 0 1000000 0\n",
+        ),
+        (
+            DESIGN,
+            "do 1 edit 0 1 wire 0 0 250000 2 0 0 1000000 0\ndo 2 edit 0 1 wire 1 0 250000 2 500000 -500000 500000 500000\n",
+            0,
+            "1 ok 1\n2 no clash 1 1\njournal 1\nentry 1 1 edit 0 1 wire 0 0 250000 2 0 0 1000000 0\n",
+        ),
+        ("(pcb s.dsn)", "", 2, "design later 0\n"),
+        (DESIGN, "do 9 edit 0 0\n", 5, "script 1\n"),
+        (
+            DESIGN,
+            "do 1 edit 0 1 wire 3 0 250000 2 0 0 1000000 0\n",
+            5,
+            "script 1\n",
+        ),
+        (
+            DESIGN,
+            "do 1 edit 0 1 wire 0 0 99999 2 0 0 1000000 0\n",
+            5,
+            "script 1\n",
+        ),
+        (
+            DESIGN,
+            "do 1 edit 0 1 wire 0 0 250000 2 0 0 1000000 1\n",
+            5,
+            "script 1\n",
+        ),
+        (
+            DESIGN,
+            "do 1 edit 0 1 wire 0 0 250000 2 0 0 1000000 0",
+            5,
+            "script 1\n",
+        ),
+    ] {
+        let mut files = files_of(alloc, design, script)?;
+        let mut out = MemSink::new(alloc);
+        let got = run(alloc, &replay_words(alloc)?, &mut files, &mut out);
+        assert_eq!(rt; got, status, "{script}");
+        assert_eq!(rt; out.written(), output.as_bytes(), "{script}");
+        assert_eq!(rt; files.bytes_of("s.ses").is_some(), status == 0, "{script}");
+    }
+    for words in [
+        ["replay", "a"].as_slice(),
+        ["make", "a", "b", "c"].as_slice(),
+    ] {
+        let mut files = files_of(alloc, DESIGN, SCRIPT)?;
+        let mut out = MemSink::new(alloc);
+        assert_eq!(rt;
+            run(alloc, &words_of(alloc, words)?, &mut files, &mut out),
+            1
+        );
+        assert_eq!(rt; out.written(), b"usage\n".as_slice());
+    }
+    Ok(())
+}
+
+// A script of one line, repeated: 500 lines are read, and the 501st is a bad line.
+#[test]
+fn line_501_is_a_bad_line(rt: HostRuntime) -> Result<(), Fail> {
+    let alloc = rt.alloc();
+    for (lines, status, line) in [(500, 0, "journal 500\n"), (501, 5, "script 501\n")] {
+        let mut script = String::new(alloc);
+        for _ in 0..lines {
+            script.push_str(FIRST)?;
+        }
+        let mut files = files_of(alloc, DESIGN, script.as_str())?;
+        let mut out = MemSink::new(alloc);
+        let got = run(alloc, &replay_words(alloc)?, &mut files, &mut out);
+        assert_eq!(rt; got, status, "{lines} lines");
+        let at_end = out
+            .written()
+            .windows(line.len())
+            .any(|w| w == line.as_bytes());
+        assert!(rt; at_end, "{lines} lines");
+    }
+    Ok(())
+}
+
+// Opens, reads and the create are calls 1 to 7: two opens with two reads each, and the create.
+#[test]
+fn each_call_of_the_files_fails_in_turn(rt: HostRuntime) -> Result<(), Fail> {
+    let alloc = rt.alloc();
+    for call in 1..9 {
+        let mut files = files_of(alloc, DESIGN, SCRIPT)?;
+        files.fail_read(call)?;
+        let mut out = MemSink::new(alloc);
+        let status = run(alloc, &replay_words(alloc)?, &mut files, &mut out);
+        let (want, line) = match call {
+            1..=6 => (3, "read\n"),
+            7 => (4, "write\n"),
+            _ => (0, OUTPUT),
+        };
+        assert_eq!(rt; status, want, "call {call}");
+        assert_eq!(rt; out.written(), line.as_bytes(), "call {call}");
+    }
+    for call in 1..4 {
+        let mut files = files_of(alloc, DESIGN, SCRIPT)?;
+        files.set_piece(300);
+        files.fail_write(call)?;
+        let mut out = MemSink::new(alloc);
+        let status = run(alloc, &replay_words(alloc)?, &mut files, &mut out);
+        assert_eq!(rt; status, if call < 3 { 4 } else { 0 }, "write {call}");
+        let kept = (300 * (call as usize - 1)).min(SESSION.len());
+        assert_eq!(rt;
+            session_of(&files),
+            &SESSION.as_bytes()[..kept],
+            "write {call}"
+        );
+    }
+    let mut files = files_of(alloc, DESIGN, SCRIPT)?;
+    let mut out = MemSink::new(alloc);
+    out.fail_write(1)?;
+    assert_eq!(rt; run(alloc, &replay_words(alloc)?, &mut files, &mut out), 4);
+    assert_eq!(rt; out.written(), b"write\n".as_slice());
+    assert_eq!(rt; session_of(&files), b"".as_slice());
+    Ok(())
+}

@@ -1,0 +1,88 @@
+//! The texts of a run.
+ghost use Rattle.std.specs.Prelude.{◌≡◌, ◌++◌, ◌∷◌, [], ◌≤◌, OnOk, IfOk, length};
+ghost use Rattle.std.specs.List.{flat_map, AllByRecursion};
+ghost use Rattle.board_rules.specs.Needs.{IsFitDesign};
+ghost use Rattle.layout_server.specs.Scripts.{IsServed};
+ghost use Rattle.session_wire.specs.Lines.{entry_line};
+ghost use Rattle.layout_server.specs.Replays.{answer_line, count_line, output_of, IsRunOf};
+
+use crate::master::{Answered, serve};
+use board_items::Entry;
+use board_rules::Design;
+use itoa::Buffer;
+use layout_io::Bytes;
+use ses_writer::put_session;
+use session_wire::{ScriptSteps, write_entry, write_reply};
+use std::alloc::{AllocError, Global};
+use std::marker::Brand;
+use std::sync::ledger::Blank;
+
+/// What a run writes: the output, and the session text.
+#[derive(Debug, Drop)]
+pub struct Texts {
+    pub output: Bytes,
+    pub session: Bytes,
+}
+
+fn put_answer(out: &mut Bytes, answered: &Answered) -> Result<(), AllocError>
+    ensures { OnOk result (out.new ≡ out.old ++ answer_line answered.now) }
+{
+    let mut buffer = Buffer::new();
+    out.append(buffer.format(answered.client).as_bytes())?;
+    out.append(b" ".as_slice())?;
+    write_reply(&answered.reply, out)
+}
+
+fn put_answers(out: &mut Bytes, answers: &[Answered]) -> Result<(), AllocError>
+    ensures { OnOk result (out.new ≡ out.old ++ flat_map answer_line answers.now) }
+{
+    for answered in answers {
+        put_answer(out, answered)?;
+    }
+    Ok(())
+}
+
+fn put_count(out: &mut Bytes, count: usize) -> Result<(), AllocError>
+    ensures { OnOk result (out.new ≡ out.old ++ count_line count) }
+{
+    let mut buffer = Buffer::new();
+    out.append(b"journal ".as_slice())?;
+    out.append(buffer.format(count).as_bytes())?;
+    out.append(b"\n".as_slice())
+}
+
+fn put_entries(out: &mut Bytes, journal: &[Entry]) -> Result<(), AllocError>
+    ensures { OnOk result (out.new ≡ out.old ++ flat_map entry_line journal.now) }
+{
+    for entry in journal {
+        write_entry(entry, out)?;
+    }
+    Ok(())
+}
+
+fn output_text(alloc: Global, answers: &[Answered], journal: &[Entry]) -> Result<Bytes, AllocError>
+    ensures { IfOk result (λ text. text ≡ output_of answers.now journal.now) }
+{
+    let mut out = Bytes::new(alloc);
+    put_answers(&mut out, answers)?;
+    put_count(&mut out, journal.len())?;
+    put_entries(&mut out, journal)?;
+    Ok(out)
+}
+
+/// Answers the steps of a script, and writes what comes of it.
+#[tactic(auto, using(crate::proofs::Ready::kept_layers))]
+pub fn texts_of(alloc: Global, design: &Design, script: &ScriptSteps) -> Result<Texts, AllocError>
+    requires design { IsFitDesign design.now }
+    requires layer { length design.now.layers ≡ 1 }
+    requires nets { length design.now.nets ≤ 1000 }
+    requires served { AllByRecursion (IsServed design.now) script.now }
+    requires few { length script.now ≤ 500 }
+    ensures { IfOk result (λ texts. IsRunOf design.now script.now texts.output texts.session) }
+{
+    let run = serve::<Brand>(alloc, design, script, Blank::new(1))?;
+    let output = output_text(alloc, run.answers.as_slice(), run.master.journal.as_slice())?;
+    let mut session = Bytes::new(alloc);
+    put_session(&mut session, design, run.master.board.live())?;
+    Ok(Texts { output, session })
+}
