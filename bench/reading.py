@@ -1,0 +1,93 @@
+#!/usr/bin/env python3
+"""Measures reading: the program on designs whose names fill 8 to 64 MiB, and the tree of texts
+of 4 to 64 MiB against `wc -w` on the same file. Give it nothing; build with `rt run` first.
+
+It prints a row a size: seconds, the most memory in MB, and what it is compared with.
+"""
+import os
+import subprocess
+import sys
+import tempfile
+import time
+
+TOP = os.path.dirname(os.path.dirname(os.path.abspath(__file__)))
+SERVER = os.path.join(TOP, "crates/layout_server/out/layout_server")
+COUNT = os.path.join(TOP, "crates/tree_count/out/tree_count")
+MIB = 1 << 20
+
+
+def timed(words, env=None):
+    """Seconds, the child's largest resident size in MB, its status and its output."""
+    begin = time.monotonic()
+    child = subprocess.Popen(words, stdout=subprocess.PIPE, stderr=subprocess.DEVNULL, env=env)
+    output = child.stdout.read()
+    _, status, usage = os.wait4(child.pid, 0)
+    return time.monotonic() - begin, usage.ru_maxrss / 1024, os.waitstatus_to_exitcode(status), output
+
+
+def design_of(size):
+    """A design of 1,000 nets whose names fill a text of nearly this size."""
+    front = b"(pcb s.dsn (unit um) (structure (layer L1 (type signal)) (rule (width 100) (clearance 200))) (network"
+    each = (size - len(front) - 2) // 1000 - len(b" (net )")
+    nets = b"".join(b" (net %s)" % (b"%06d" % i).rjust(each, b"n") for i in range(1000))
+    return front + nets + b"))"
+
+
+def text_of(size, kind):
+    """A text of this size: short words, or lists of one word."""
+    piece = b"wire 12 " if kind == "words" else b"(a b)(c)"
+    body = piece * ((size - 2) // len(piece))
+    return b"(" + body + b")"
+
+
+def designs(folder):
+    print("design of 1,000 nets: MiB, seconds, MB, status")
+    for mib in (8, 16, 32, 64):
+        path = os.path.join(folder, "d.dsn")
+        with open(path, "wb") as file:
+            file.write(design_of(mib * MIB))
+        open(os.path.join(folder, "d.script"), "w").close()
+        seconds, most, status, _ = timed([SERVER, "replay", path, os.path.join(folder, "d.script"), os.path.join(folder, "d.ses")])
+        print(f"  {mib:3d} {seconds:8.2f} {most:8.0f} {status}")
+
+
+def trees(folder):
+    print("tree of a text: kind, MiB, seconds, MB, wc -w seconds, ratio")
+    for kind in ("words", "lists"):
+        for mib in (4, 16, 64):
+            path = os.path.join(folder, "t.txt")
+            with open(path, "wb") as file:
+                file.write(text_of(mib * MIB, kind))
+            seconds, most, status, output = timed([COUNT, path])
+            words, _, _, _ = timed(["wc", "-w", path], env={"LC_ALL": "C", "PATH": os.environ["PATH"]})
+            print(f"  {kind} {mib:3d} {seconds:8.2f} {most:8.0f} {words:8.3f} {seconds / words:8.1f}  {output.decode().strip()}")
+
+
+def requests(folder):
+    print("requests a second with wires that all stay apart: live items, seconds, requests a second")
+    path = os.path.join(folder, "r.dsn")
+    with open(path, "wb") as file:
+        file.write(b"(pcb s.dsn (unit um) (structure (layer L1 (type signal)) (rule (width 100) (clearance 200))) (network (net A) (net B)))")
+    for count in (100, 250, 500):
+        script = os.path.join(folder, "r.script")
+        with open(script, "w") as file:
+            for i in range(count):
+                file.write(f"do 1 edit 0 1 wire {i % 2} 0 100000 2 0 {i * 1000000} 900000 {i * 1000000}\n")
+        seconds, _, status, _ = timed([SERVER, "replay", path, script, os.path.join(folder, "r.ses")])
+        print(f"  {count:4d} {seconds:8.3f} {count / seconds:10.0f}  status {status}")
+
+
+def main():
+    for program in (SERVER, COUNT):
+        if not os.path.exists(program):
+            print(f"{os.path.relpath(program, TOP)} isn't built: run `rt run` in its crate")
+            return 1
+    with tempfile.TemporaryDirectory() as folder:
+        designs(folder)
+        trees(folder)
+        requests(folder)
+    return 0
+
+
+if __name__ == "__main__":
+    sys.exit(main())
