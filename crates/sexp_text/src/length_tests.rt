@@ -1,3 +1,5 @@
+//! Tables of number texts and their lengths.
+
 use crate::{NumFault, Unit, length_of};
 
 // The values are worked by hand from the factors of the units.
