@@ -1,5 +1,6 @@
 pub mod Asks
 pub mod Breaks
+pub mod Complete
 pub mod Files
 pub mod Journals
 pub mod Loads

@@ -56,16 +56,17 @@ stored_all design script session l a b c before after inputs kept s = record {
   file = told_behind session s.session a b c kept s.file;
 }
 
-leaves_some : (design script session : List ℕ) (l : Loaded) (a b c : Option Disk) (before now : Option (List ℕ)) → Told a b SameFiles → StoreLeaves l session b c before now
+leaves_some : (design script session : List ℕ) (l : Loaded) (a b c : Option Disk) (before now : Option (List ℕ)) → Told a b (λ d e. HasDesign design l.design d × HasSteps script l.design l.steps d) → Told a b SameFiles → StoreLeaves l session b c before now
     → Leaves (named design script session) a c before now Write
-leaves_some design script session l a b c before now kept (inl h) = inl (h.0, same_behind a b c kept h.1)
-leaves_some design script session l a b c before now kept (inr (inl h)) = inr (inl (h.0, told_behind session [] a b c kept h.1))
-leaves_some design script session l a b c before now kept (inr (inr p)) = inr (inr (record {
+leaves_some design script session l a b c before now inputs kept (inl h) = inl (h.0, same_behind a b c kept h.1)
+leaves_some design script session l a b c before now inputs kept (inr (inl h)) = inr (inl (h.0, told_behind session [] a b c kept h.1))
+leaves_some design script session l a b c before now inputs kept (inr (inr p)) = inr (inr (record {
   design = l.design;
   steps = l.steps;
   output = p.output;
   session = p.session;
   run = p.run;
+  inputs = inputs_of design script session l a b inputs;
   n = p.n;
   m = p.m;
   out = p.out;
@@ -73,13 +74,13 @@ leaves_some design script session l a b c before now kept (inr (inr p)) = inr (i
   order = p.order;
 }))
 
-pub store_leaves : (design script session : List ℕ) (l : Loaded) (a b c : Option Disk) (before now : Option (List ℕ)) (stop : Stop) → WriteFault stop → Told a b SameFiles → StoreLeaves l session b c before now
+pub store_leaves : (design script session : List ℕ) (l : Loaded) (a b c : Option Disk) (before now : Option (List ℕ)) (stop : Stop) → WriteFault stop → Told a b (λ d e. HasDesign design l.design d × HasSteps script l.design l.steps d) → Told a b SameFiles → StoreLeaves l session b c before now
     → Leaves (named design script session) a c before now stop
-store_leaves design script session l a b c before now Design fault kept h = absurd fault
-store_leaves design script session l a b c before now Read fault kept h = absurd fault
-store_leaves design script session l a b c before now Write fault kept h = leaves_some design script session l a b c before now kept h
-store_leaves design script session l a b c before now (Script k) fault kept h = absurd fault
-store_leaves design script session l a b c before now Memory fault kept h = leaves_some design script session l a b c before now kept h
+store_leaves design script session l a b c before now Design fault inputs kept h = absurd fault
+store_leaves design script session l a b c before now Read fault inputs kept h = absurd fault
+store_leaves design script session l a b c before now Write fault inputs kept h = leaves_some design script session l a b c before now inputs kept h
+store_leaves design script session l a b c before now (Script k) fault inputs kept h = absurd fault
+store_leaves design script session l a b c before now Memory fault inputs kept h = leaves_some design script session l a b c before now inputs kept h
 
 pub store_cause : (design script session : List ℕ) (l : Loaded) (a b : Option Disk) (stop : Stop) → WriteFault stop → Told a b (λ d e. HasDesign design l.design d × HasSteps script l.design l.steps d) → StopCause (named design script session) a stop
 store_cause design script session l a b Design fault inputs = absurd fault
@@ -88,10 +89,10 @@ store_cause design script session l a b Write fault inputs = (l.design, l.steps,
 store_cause design script session l a b (Script k) fault inputs = absurd fault
 store_cause design script session l a b Memory fault inputs = tt
 
-pub left_if : (r : Result (Unit {0}) Stop) (design script session : List ℕ) (l : Loaded) (a b c : Option Disk) (before now : Option (List ℕ)) → IfErr r WriteFault → Told a b SameFiles → OnErr r (StoreLeaves l session b c before now)
+pub left_if : (r : Result (Unit {0}) Stop) (design script session : List ℕ) (l : Loaded) (a b c : Option Disk) (before now : Option (List ℕ)) → IfErr r WriteFault → Told a b (λ d e. HasDesign design l.design d × HasSteps script l.design l.steps d) → Told a b SameFiles → OnErr r (StoreLeaves l session b c before now)
     → IfErr r (Leaves (named design script session) a c before now)
-left_if (Ok u) design script session l a b c before now fault kept h = tt
-left_if (Err stop) design script session l a b c before now fault kept h = store_leaves design script session l a b c before now stop fault kept h
+left_if (Ok u) design script session l a b c before now fault inputs kept h = tt
+left_if (Err stop) design script session l a b c before now fault inputs kept h = store_leaves design script session l a b c before now stop fault inputs kept h
 
 pub cause_if : (r : Result (Unit {0}) Stop) (design script session : List ℕ) (l : Loaded) (a b : Option Disk) → IfErr r WriteFault → Told a b (λ d e. HasDesign design l.design d × HasSteps script l.design l.steps d)
     → IfErr r (StopCause (named design script session) a)

@@ -1,5 +1,5 @@
 -- The first line of a script, and the lines so far.
-use Rattle.std.proofs.Common.{◌≡◌, ◌≢◌, ℕ, ◌+◌, ◌<◌, ◌≤◌, List, [], ◌∷◌, ◌++◌, length, refl, sym, ap, subst, ◌∙◌, append_assoc, arith, length-append}
+use Rattle.std.proofs.Common.{◌≡◌, ◌≢◌, ℕ, ◌+◌, ◌<◌, ◌≤◌, List, [], ◌∷◌, ◌++◌, length, refl, sym, ap, subst, ◌∙◌, append_assoc, arith, length-append, inl, inr}
 use Rattle.std.specs.List.{AllByRecursion, flat_map}
 use Rattle.board_rules.specs.declared.design.Design.{Design}
 use Rattle.session_wire.specs.declared.steps.ScriptStep.{ScriptStep}
@@ -63,3 +63,29 @@ one_list d (s ∷ ss) (t ∷ ts) p q e =
 
 pub one_script : (d : Design) (text : List ℕ) (a b : List ScriptStep) → IsScript d text a → IsScript d text b → a ≡ b
 one_script d text a b p q = one_list d a b p.served q.served (sym p.spelled ∙ q.spelled)
+
+-- what a longer list of lines has behind a front of them
+behind_front : (d : Design) (a b : List ScriptStep) (rest : List ℕ) → AllByRecursion (IsServed d) a → AllByRecursion (IsServed d) b → flat_map step_line a ++ rest ≡ flat_map step_line b → 0 < length rest
+    → (others : List ScriptStep) × (b ≡ a ++ others) × (rest ≡ flat_map step_line others) × AllByRecursion (IsServed d) others
+behind_front d [] b rest p q e some = (b, refl, e, q)
+behind_front d (s ∷ ss) [] rest p q e some = absurd (omega (arith, ap length e, length-append (flat_map step_line (s ∷ ss)) rest, length-append (step_line s) (flat_map step_line ss), length_line s (flat_map step_line ss)))
+behind_front d (s ∷ ss) (t ∷ ts) rest p q e some =
+    let left : flat_map step_line (s ∷ ss) ++ rest ≡ step_text s ++ 10 ∷ (flat_map step_line ss ++ rest) =
+    append_assoc (step_line s) (flat_map step_line ss) rest ∙ append_assoc (step_text s) (10 ∷ []) (flat_map step_line ss ++ rest) in
+    let right : flat_map step_line (t ∷ ts) ≡ step_text t ++ 10 ∷ flat_map step_line ts = append_assoc (step_text t) (10 ∷ []) (flat_map step_line ts) in
+    let lines = one_line (step_text s) (step_text t) (flat_map step_line ss ++ rest) (flat_map step_line ts) (step_is_one_line s p.0.step) (step_is_one_line t q.0.step) (sym left ∙ e ∙ right) in
+    let head : s ≡ t = one_step s t p.0.step q.0.step lines.0 in
+    let (others, parts, text, served) = behind_front d ss ts rest p.1 q.1 lines.1 some in
+    (others, cc, text, served)
+
+bad_rest : (d : Design) (before others : List ScriptStep) (rest : List ℕ) → IsBadRest d before rest → rest ≡ flat_map step_line others → AllByRecursion (IsServed d) others → 0 < length rest → length (before ++ others) ≤ 500 → ⊥
+bad_rest d before [] rest bad text served some few = absurd (omega (arith, ap length text))
+bad_rest d before (s ∷ ss) rest (inl full) text served some few = absurd (omega (arith, full, length-append before (s ∷ ss)))
+bad_rest d before (s ∷ ss) rest (inr none) text served some few = none s (flat_map step_line ss) served.0 text
+
+-- a script has no bad line
+pub not_bad : (d : Design) (text : List ℕ) (steps : List ScriptStep) (k : ℕ) → IsScript d text steps → IsBad d text k → ⊥
+not_bad d text steps k is (inl long) = absurd (omega (arith, long.0, is.short))
+not_bad d text steps k is (inr (short, bad)) =
+    let (others, parts, rest, served) = behind_front d bad.before steps bad.rest bad.served is.served (sym bad.parts ∙ is.spelled) bad.some in
+    bad_rest d bad.before others bad.rest bad.bad rest served bad.some (omega (arith, is.few, ap length parts))

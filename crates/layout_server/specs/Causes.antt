@@ -13,12 +13,12 @@ ReadCause before now (Err Write) = now ≡ before
 ReadCause before now (Err (Script k)) = now ≡ before
 ReadCause before now (Err Memory) = now ≡ before
 
--- a write's fault has one of the two counts rise; else they stand
+-- a write's fault has one of the two counts rise, the files' or the sink's, and the other stand; else both stand
 abbrev pub WriteCause : {T : Type 0} → ℕ → ℕ → ℕ → ℕ → Result T Stop → Type 0
 WriteCause before now out_before out_now (Ok x) = (now ≡ before) × (out_now ≡ out_before)
 WriteCause before now out_before out_now (Err Design) = (now ≡ before) × (out_now ≡ out_before)
 WriteCause before now out_before out_now (Err Read) = (now ≡ before) × (out_now ≡ out_before)
-WriteCause before now out_before out_now (Err Write) = Rose before now ⊎ Rose out_before out_now
+WriteCause before now out_before out_now (Err Write) = (Rose before now × (out_now ≡ out_before)) ⊎ ((now ≡ before) × Rose out_before out_now)
 WriteCause before now out_before out_now (Err (Script k)) = (now ≡ before) × (out_now ≡ out_before)
 WriteCause before now out_before out_now (Err Memory) = (now ≡ before) × (out_now ≡ out_before)
 

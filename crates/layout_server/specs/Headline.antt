@@ -1,5 +1,5 @@
 -- What `replay` leaves at its end, and what at a stop.
-use Rattle.std.specs.Prelude.{◌≡◌, ◌⊎◌, ◌<◌, ◌≤◌, ℕ, Bool, false, List, [], ◌∷◌, ◌++◌, length, take, Option, Some, None, IfSome}
+use Rattle.std.specs.Prelude.{◌≡◌, ◌⊎◌, ◌<◌, ◌≤◌, ℕ, Bool, false, List, [], ◌∷◌, ◌++◌, length, take, Option, Some, None, Err, IfSome}
 use Rattle.std.specs.Io.KnownBytes.{Appends}
 use Rattle.layout_io.specs.Causes.{Rose}
 use Rattle.layout_io.specs.Told.{Disk, Told, SameBut, bytes_of}
@@ -10,7 +10,7 @@ use Rattle.layout_server.specs.Words.{Names}
 use Rattle.layout_server.specs.Outside.{Begins}
 use Rattle.layout_server.specs.Scripts.{IsScript, IsBad}
 use Rattle.layout_server.specs.Replays.{IsRunOf}
-use Rattle.layout_server.specs.Causes.{status_of, stop_line}
+use Rattle.layout_server.specs.Causes.{WriteCause, status_of, stop_line}
 use Rattle.layout_server.specs.declared.stop.Stop.{Stop}
 use Rattle.layout_server.specs.declared.stop.Stop.TheVariants.{Design, Read, Write, Script, Memory}
 
@@ -68,6 +68,7 @@ pub record PartOfRun (names : Names) (old new : Option Disk) (before now : Optio
   pub output : List ℕ
   pub session : List ℕ
   pub run : IsRunOf design steps output session
+  pub inputs : IfSome old (HasInputs names design steps)
   pub n : ℕ
   pub m : ℕ
   pub out : Appends before now (take n output)
@@ -95,15 +96,31 @@ pub record Tells (line : List ℕ) (before after : Option (List ℕ)) (faults_be
   pub begins : Begins line before after
   pub whole : (Rose faults_before faults → ⊥) → ran_out ≡ false → Appends before after line
 
--- why `replay` stopped, what it had left, and its line
-pub record Stops (names : Names) (old new : Option Disk) (before after : Option (List ℕ)) (faults : ℕ) (ran_out : Bool) (status : ℕ) : Type 0 where
+-- the counts of failed calls before and after: of the files' creates and writes, and of the sink's writes
+pub record Counts : Type 0 where
+  pub files_before : ℕ
+  pub files_after : ℕ
+  pub out_before : ℕ
+  pub out_after : ℕ
+
+abbrev pub counts : ℕ → ℕ → ℕ → ℕ → Counts
+counts files_before files_after out_before out_after = record { files_before = files_before; files_after = files_after; out_before = out_before; out_after = out_after }
+
+-- why `replay` stopped, what it had left, the sink's count then, and its line
+pub record Stops (names : Names) (old new : Option Disk) (before after : Option (List ℕ)) (count : Counts) (ran_out : Bool) (status : ℕ) : Type 0 where
   pub stop : Stop
   pub status_is : status ≡ status_of stop
   pub cause : StopCause names old stop
   pub mid : Option (List ℕ)
   pub left : Leaves names old new before mid stop
-  pub mid_faults : ℕ
-  pub line : Tells (stop_line stop) mid after mid_faults faults ran_out
+  pub mid_count : ℕ
+  pub counted : WriteCause {T = Unit {0}} count.files_before count.files_after count.out_before mid_count (Err stop)
+  pub line : Tells (stop_line stop) mid after mid_count count.out_after ran_out
+
+-- the files are told, and both inputs have these readings
+abbrev pub HasToldInputs : Names → Board → List ScriptStep → Option Disk → Type 0
+HasToldInputs names d steps None = ⊥
+HasToldInputs names d steps (Some disk) = HasInputs names d steps disk
 
 -- the statuses that are given
 abbrev pub IsStatus : ℕ → Type 0

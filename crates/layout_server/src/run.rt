@@ -1,9 +1,11 @@
 //! The program's commands.
-ghost use Rattle.std.specs.Prelude.{◌≡◌, ◌≢◌, ◌≤◌, ◌⊎◌, ◌↔◌, ◌∷◌, [], IsTrue, OnOk, IfErr, codes, length};
+ghost use Rattle.std.specs.Prelude.{◌≡◌, ◌≢◌, ◌≤◌, ◌⊎◌, ◌↔◌, ◌∷◌, [], List, IsTrue, OnOk, IfErr, codes, length};
 ghost use Rattle.layout_io.specs.Causes.{Rose};
+ghost use Rattle.board_rules.specs.declared.design.Design.{Design};
+ghost use Rattle.session_wire.specs.declared.steps.ScriptStep.{ScriptStep};
 ghost use Rattle.layout_server.specs.Words.{texts, names_in, IsReplay, Asked, three};
 ghost use Rattle.layout_server.specs.Causes.{ReadCause, WriteCause};
-ghost use Rattle.layout_server.specs.Headline.{Replays, StopCause, Leaves, Stops, Tells, IsStatus};
+ghost use Rattle.layout_server.specs.Headline.{Replays, StopCause, Leaves, Stops, Tells, IsStatus, HasToldInputs, counts};
 
 use crate::replay::replay;
 use crate::stop::Stop;
@@ -50,7 +52,7 @@ pub fn run<F: Files, O: Sink>(alloc: Global, words: &[String], files: &mut F, ou
     // At 0 the output and the session file are those of the script's steps, from the bytes of the design on.
     ensures replayed { result ≡ 0 → Replays (names_in (texts words.now)) (F.disk files.old) (F.disk files.new) (O.written out.old) (O.written out.new) }
     // From 2 on: 2 exactly for the design, 5 exactly for a line of the script, what was written, and the status's line.
-    ensures stopped { 2 ≤ result → Stops (names_in (texts words.now)) (F.disk files.old) (F.disk files.new) (O.written out.old) (O.written out.new) (O.faults out.new) (O.ran_out out.new) result }
+    ensures stopped { 2 ≤ result → Stops (names_in (texts words.now)) (F.disk files.old) (F.disk files.new) (O.written out.old) (O.written out.new) (counts (F.write_faults files.old) (F.write_faults files.new) (O.faults out.old) (O.faults out.new)) (O.ran_out out.new) result }
     // A fault only where a count rose, and none is passed over.
     ensures read { result ≡ 3 → Rose (F.read_faults files.old) (F.read_faults files.new) }
     ensures no_read_fault { result ≢ 3 → F.read_faults files.new ≡ F.read_faults files.old }
@@ -59,6 +61,8 @@ pub fn run<F: Files, O: Sink>(alloc: Global, words: &[String], files: &mut F, ou
     ensures no_out_fault { result ≡ 0 → O.faults out.new ≡ O.faults out.old }
     // No other file is touched.
     ensures asked { Asked (three (names_in (texts words.now))) (F.asked files.old) (F.asked files.new) }
+    // Inputs with a reading, and no count that rose, give 0, or want of memory.
+    ensures complete { (d : Design) (steps : List ScriptStep) → IsReplay (texts words.now) → HasToldInputs (names_in (texts words.now)) d steps (F.disk files.old) → (Rose (F.read_faults files.old) (F.read_faults files.new) → ⊥) → (Rose (F.write_faults files.old) (F.write_faults files.new) → ⊥) → (Rose (O.faults out.old) (O.faults out.new) → ⊥) → (result ≡ 0) ⊎ (result ≡ 7) }
 {
     if !is_replay(words) {
         tell(out, b"usage\n");

@@ -13,7 +13,7 @@ returns-clause-asked g c =
 
 pub returns-clause-left : goal.returns-clause-left
 returns-clause-left g c =
-    left_if c.store.result c.args.design.now c.args.script.now c.args.session.now c.in_ok-loaded.loaded (g.F.Files.disk c.args.files.now) (g.F.Files.disk c.load.new.files) (g.F.Files.disk c.store.new.files) (g.O.Sink.written c.args.out.now) (g.O.Sink.written c.store.new.out) c.store.ensures.fault c.load.ensures.kept c.store.ensures.left
+    left_if c.store.result c.args.design.now c.args.script.now c.args.session.now c.in_ok-loaded.loaded (g.F.Files.disk c.args.files.now) (g.F.Files.disk c.load.new.files) (g.F.Files.disk c.store.new.files) (g.O.Sink.written c.args.out.now) (g.O.Sink.written c.store.new.out) c.store.ensures.fault c.in_ok-loaded.ensures.inputs c.load.ensures.kept c.store.ensures.left
 
 pub returns-clause-cause : goal.returns-clause-cause
 returns-clause-cause g c =
