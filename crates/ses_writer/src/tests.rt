@@ -75,10 +75,12 @@ fn a_session_has_the_wires_of_each_net(rt: HostRuntime) -> Result<(), Fail> {
     let alloc = rt.alloc();
     let mut layers = Names::new(alloc);
     layers.push(Row::from_slice(alloc, b"F.Cu".as_slice())?)?;
+    let nets = names_of(alloc, &["A", "B", "C-1"])?;
+    assert_eq!(rt; nets.len(), 3);
     let design = Design {
         name: Row::from_slice(alloc, b"s 1.dsn".as_slice())?,
         layers,
-        nets: names_of(alloc, &["A", "B", "C-1"])?,
+        nets,
         rule: Rule {
             width: 100_000,
             clearance: 200_000,
