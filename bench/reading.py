@@ -2,13 +2,12 @@
 """Measures reading: the program on designs whose names fill 8 to 64 MiB, and the tree of texts
 of 4 to 64 MiB against `wc -w` on the same file. Give it nothing; build with `rt run` first.
 
-It prints a row a size: seconds, the most memory in MB, and what it is compared with.
+It prints a row a size: processor seconds, the most memory in MB, and what it is compared with.
 """
 import os
 import subprocess
 import sys
 import tempfile
-import time
 
 TOP = os.path.dirname(os.path.dirname(os.path.abspath(__file__)))
 SERVER = os.path.join(TOP, "crates/layout_server/out/layout_server")
@@ -17,12 +16,11 @@ MIB = 1 << 20
 
 
 def timed(words, env=None):
-    """Seconds, the child's largest resident size in MB, its status and its output."""
-    begin = time.monotonic()
+    """Processor seconds, the child's largest resident size in MB, its status and its output."""
     child = subprocess.Popen(words, stdout=subprocess.PIPE, stderr=subprocess.DEVNULL, env=env)
     output = child.stdout.read()
     _, status, usage = os.wait4(child.pid, 0)
-    return time.monotonic() - begin, usage.ru_maxrss / 1024, os.waitstatus_to_exitcode(status), output
+    return usage.ru_utime + usage.ru_stime, usage.ru_maxrss / 1024, os.waitstatus_to_exitcode(status), output
 
 
 def design_of(size):
@@ -60,7 +58,7 @@ def trees(folder):
                 file.write(text_of(mib * MIB, kind))
             seconds, most, status, output = timed([COUNT, path])
             words, _, _, _ = timed(["wc", "-w", path], env={"LC_ALL": "C", "PATH": os.environ["PATH"]})
-            print(f"  {kind} {mib:3d} {seconds:8.2f} {most:8.0f} {words:8.3f} {seconds / words:8.1f}  {output.decode().strip()}")
+            print(f"  {kind} {mib:3d} {seconds:8.2f} {most:8.0f} {words:8.3f} {seconds / max(words, 0.001):8.1f}  {output.decode().strip()}")
 
 
 def requests(folder):
@@ -74,7 +72,7 @@ def requests(folder):
             for i in range(count):
                 file.write(f"do 1 edit 0 1 wire {i % 2} 0 100000 2 0 {i * 1000000} 900000 {i * 1000000}\n")
         seconds, _, status, _ = timed([SERVER, "replay", path, script, os.path.join(folder, "r.ses")])
-        print(f"  {count:4d} {seconds:8.3f} {count / seconds:10.0f}  status {status}")
+        print(f"  {count:4d} {seconds:8.3f} {count / max(seconds, 0.001):10.0f}  status {status}")
 
 
 def main():
