@@ -1,8 +1,9 @@
 #!/usr/bin/env python3
 """Measures reading: the program on designs whose names fill 8 to 64 MiB, and the tree of texts
-of 4 to 64 MiB against `wc -w` on the same file. Give it nothing; build with `rt run` first.
+of 4 to 64 MiB against `wc -w` on the same file. Give it no words; build with `rt run` first.
 
 It prints a row a size: processor seconds, the most memory in MB, and what it is compared with.
+A child's memory is counted from its start as a copy of this process, so no text is held whole here.
 """
 import os
 import subprocess
@@ -23,42 +24,53 @@ def timed(words, env=None):
     return usage.ru_utime + usage.ru_stime, usage.ru_maxrss / 1024, os.waitstatus_to_exitcode(status), output
 
 
-def design_of(size):
+def write_times(file, piece, times):
+    """Writes a piece so many times, in blocks."""
+    block = max(1, (1 << 16) // len(piece))
+    for _ in range(times // block):
+        file.write(piece * block)
+    file.write(piece * (times % block))
+
+
+def write_design(path, size):
     """A design of 1,000 nets whose names fill a text of nearly this size."""
     front = b"(pcb s.dsn (unit um) (structure (layer L1 (type signal)) (rule (width 100) (clearance 200))) (network"
     each = (size - len(front) - 2) // 1000 - len(b" (net )")
-    nets = b"".join(b" (net %s)" % (b"%06d" % i).rjust(each, b"n") for i in range(1000))
-    return front + nets + b"))"
+    with open(path, "wb") as file:
+        file.write(front)
+        for i in range(1000):
+            file.write(b" (net %s)" % (b"%06d" % i).rjust(each, b"n"))
+        file.write(b"))")
 
 
-def text_of(size, kind):
-    """A text of this size: short words, or lists of one word."""
-    piece = b"wire 12 " if kind == "words" else b"(a b)(c)"
-    body = piece * ((size - 2) // len(piece))
-    return b"(" + body + b")"
+def write_text(path, size, piece):
+    """One list that is filled with a piece."""
+    with open(path, "wb") as file:
+        file.write(b"(")
+        write_times(file, piece, (size - 2) // len(piece))
+        file.write(b")")
 
 
 def designs(folder):
     print("design of 1,000 nets: MiB, seconds, MB, status")
     for mib in (8, 16, 32, 64):
         path = os.path.join(folder, "d.dsn")
-        with open(path, "wb") as file:
-            file.write(design_of(mib * MIB))
+        write_design(path, mib * MIB)
         open(os.path.join(folder, "d.script"), "w").close()
         seconds, most, status, _ = timed([SERVER, "replay", path, os.path.join(folder, "d.script"), os.path.join(folder, "d.ses")])
         print(f"  {mib:3d} {seconds:8.2f} {most:8.0f} {status}")
 
 
 def trees(folder):
-    print("tree of a text: kind, MiB, seconds, MB, wc -w seconds, ratio")
-    for kind in ("words", "lists"):
-        for mib in (4, 16, 64):
-            path = os.path.join(folder, "t.txt")
-            with open(path, "wb") as file:
-                file.write(text_of(mib * MIB, kind))
-            seconds, most, status, output = timed([COUNT, path])
-            words, _, _, _ = timed(["wc", "-w", path], env={"LC_ALL": "C", "PATH": os.environ["PATH"]})
-            print(f"  {kind} {mib:3d} {seconds:8.2f} {most:8.0f} {words:8.3f} {seconds / max(words, 0.001):8.1f}  {output.decode().strip()}")
+    print("tree of a text: piece, MiB, seconds, MB, wc -w seconds, ratio, lists and words")
+    path = os.path.join(folder, "t.txt")
+    usual = [(piece, mib) for piece in (b"wire 12 ", b"(a b)(c)") for mib in (4, 16, 64)]
+    largest = [(piece, 64) for piece in (b"a ", b"()", b"(a)")]
+    for piece, mib in usual + largest:
+        write_text(path, mib * MIB, piece)
+        seconds, most, _, output = timed([COUNT, path])
+        words, _, _, _ = timed(["wc", "-w", path], env={"LC_ALL": "C", "PATH": os.environ["PATH"]})
+        print(f"  {piece.decode():9s} {mib:3d} {seconds:8.2f} {most:8.0f} {words:8.3f} {seconds / max(words, 0.001):8.1f}  {output.decode().strip()}")
 
 
 def requests(folder):

@@ -1,31 +1,29 @@
-//! Counts the lists and words of a text: `tree_count <file>`. The bench measures reading by it.
+//! Counts the lists and words of texts: `tree_count <file>..`. The bench measures reading by it.
 #![tactic(auto)]
 
-use sexp_text::read_tree;
+mod count;
+#[cfg(test)]
+mod tests;
+
+use count::{TEXT_LIMIT, count_of};
 use std::rt::HostRuntime;
 use std::{env, fs, io, process};
 
-/// How many bytes a text may have.
-const TEXT_LIMIT: usize = 67_108_864;
-
-// The lists and words of a file's text, or none where it has a text fault, is too long or can't be held.
-fn count_of(rt: &HostRuntime, name: &str) -> io::Result<Option<u32>> {
+// A file's line: how many lists and words it has, its text fault, or that it is too long.
+fn print_count(rt: &HostRuntime, name: &str) -> io::Result<()> {
     let bytes = fs::read(rt, name)?;
     if bytes.len() > TEXT_LIMIT {
-        return Ok(None);
+        return println!(rt; "long");
     }
-    match read_tree(rt.alloc(), &bytes) {
-        Ok(tree) => Ok(Some(tree.count())),
-        Err(_) => Ok(None),
+    match count_of(rt.alloc(), &bytes) {
+        Ok(count) => println!(rt; "{count}"),
+        Err(fault) => println!(rt; "{fault}"),
     }
 }
 
 fn main(rt: HostRuntime) -> io::Result<process::ExitCode> {
     for name in env::args(&rt)?.skip(1) {
-        match count_of(&rt, name.as_str())? {
-            Some(count) => println!(rt; "{count}")?,
-            None => println!(rt; "fault")?,
-        }
+        print_count(&rt, name.as_str())?;
     }
     Ok(process::ExitCode::SUCCESS)
 }
