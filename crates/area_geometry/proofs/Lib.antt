@@ -1,3 +1,5 @@
 pub mod PieceLists
 pub mod Places
 pub mod Crossings
+pub mod Outlines
+pub mod BothWays

@@ -1,9 +1,12 @@
 -- Copper at its place: the segments of chains and the edges of areas; all lengths in nanometres
 -- Cited by every call that takes a shape
-use Rattle.std.specs.Prelude.{◌≤◌, ℕ, List, [], ◌∷◌, ◌++◌, Bool, true, map, All, ◌+ℤ◌, cond}
+use Rattle.std.specs.Prelude.{◌≤◌, ℕ, List, [], ◌∷◌, ◌++◌, Bool, true, false, map, All, ◌+ℤ◌, cond}
 use Rattle.seg_geometry.specs.declared.points.Pt.{Pt}
 use Rattle.seg_geometry.specs.declared.points.Seg.{Seg}
 use Rattle.seg_geometry.specs.Points.{IsInRange}
+use Rattle.area_geometry.specs.declared.shapes.Core.{Core}
+use Rattle.area_geometry.specs.declared.shapes.Core.TheVariants.{Chain, Area}
+use Rattle.area_geometry.specs.declared.shapes.Shape.{Shape}
 use Rattle.area_geometry.specs.declared.shapes.ShapeView.{ShapeView}
 
 -- a shape at its place: its points run round an area or along a chain
@@ -20,6 +23,20 @@ moved at p = record { x = p.x +ℤ at.x; y = p.y +ℤ at.y }
 -- what a view shows
 abbrev pub copper_of : ShapeView → Copper
 copper_of s = record { layer = s.layer; area = s.area; points = map (moved s.at) s.points.now; width = s.width }
+
+-- a core's points run round an area
+abbrev pub is_area : Core → Bool
+is_area (Chain points) = false
+is_area (Area points) = true
+
+-- the points of a core
+abbrev pub core_points : Core → List Pt
+core_points (Chain points) = points
+core_points (Area points) = points
+
+-- a shape at a place: moved by the point
+abbrev pub placed : Pt → Shape → Copper
+placed at s = record { layer = s.layer; area = is_area s.core; points = map (moved at) (core_points s.core); width = s.width }
 
 -- an area of width 0
 abbrev pub area_on : ℕ → List Pt → Copper

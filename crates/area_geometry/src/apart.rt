@@ -1,9 +1,9 @@
-//! Whether two shapes are apart, and whether a shape touches an area.
-ghost use Rattle.std.specs.Prelude.{◌≤◌, ◌+◌, ◌*◌, ◌↔◌, length, All, IsTrue};
+//! Whether two shapes are apart, and whether a shape touches an area or lies within it.
+ghost use Rattle.std.specs.Prelude.{ℕ, ◌≤◌, ◌+◌, ◌*◌, ◌↔◌, length, All, IsTrue};
 ghost use Rattle.seg_geometry.specs.Points.{IsInRange, IsSegInRange};
 ghost use Rattle.seg_geometry.specs.Apart.{IsApart};
-ghost use Rattle.area_geometry.specs.Copper.{copper_of, pieces_of, IsWithinLimits};
-ghost use Rattle.area_geometry.specs.Apart.{pair_count, AreAllApart, AreCoresApart, AreShapesApart, BeginsOutside, Touches};
+ghost use Rattle.area_geometry.specs.Copper.{Copper, copper_of, pieces_of, IsWithinLimits};
+ghost use Rattle.area_geometry.specs.Apart.{pair_count, AreAllApart, AreCoresApart, AreShapesApart, BeginsOutside, IsFirstInside, LiesWithin, Touches};
 
 use crate::rings::holds;
 use crate::shapes::ShapeView;
@@ -96,3 +96,38 @@ pub fn touches<L: Ledger>(s: ShapeView<'_>, area: &[Pt], steps: &mut Steps<L>) -
 {
     !shape_keeps(s, ShapeView::of_area(area, s.layer), 1, steps)
 }
+
+/// Whether the first point of `s` lies in an area. It doesn't where `s` has no point.
+fn begins_inside(s: ShapeView<'_>, area: ShapeView<'_>) -> bool
+    requires s_in { IsWithinLimits (copper_of s) }
+    requires area_in { IsWithinLimits (copper_of area) }
+    requires is_area { IsTrue area.area }
+    ensures { IsTrue result ↔ IsFirstInside (copper_of s.entry).points (copper_of area.entry).points }
+{
+    !s.points.is_empty() && holds(area, s.point(0))
+}
+
+/// Whether a shape lies within the area inside a ring of points: it begins in the area, and is apart by 1 nm from the
+/// ring, whatever the layer. It takes at most one step for each pair of a segment or edge of the shape and an edge of
+/// the area.
+#[tactic(auto, using(crate::proofs::Outlines::lies_to))]
+pub fn lies_within<L: Ledger>(s: ShapeView<'_>, area: &[Pt], steps: &mut Steps<L>) -> bool
+    requires s_in { IsWithinLimits (copper_of s) }
+    requires area_in { All IsInRange area.now }
+    ensures within { IsTrue result ↔ LiesWithin (copper_of s.entry) area.now }
+    ensures cost { steps.new ≤ steps.old + length (pieces_of (copper_of s.entry)) * length area.now }
+{
+    let ring = ShapeView::of_area(area, s.layer);
+    if !begins_inside(s, ring) {
+        return false;
+    }
+    if !begins_outside(ring, s) {
+        return false;
+    }
+    pieces_keep(s, ring, u64::from(s.width) + 2, steps)
+}
+
+/// Two shapes are apart both ways round.
+pub fn apart_both_ways()
+    ensures { (s t : Copper) (c : ℕ) → AreShapesApart s t c → AreShapesApart t s c }
+{}

@@ -6,9 +6,9 @@ mod pieces;
 mod rings;
 mod shapes;
 
-pub use apart::{shape_keeps, touches};
+pub use apart::{apart_both_ways, lies_within, shape_keeps, touches};
 pub use rings::inside;
-pub use shapes::{Core, Shape, ShapeView, Shapes};
+pub use shapes::{Core, Shape, ShapeView, Shapes, copy_shapes};
 
 #[cfg(test)]
 mod tests;

@@ -1,7 +1,10 @@
 //! The shapes of copper, owned and borrowed.
+ghost use Rattle.std.specs.Prelude.{◌≡◌, IfOk};
+ghost use Rattle.area_geometry.specs.Copper.{copper_of, placed};
 
 use row_lists::Row;
 use seg_geometry::{Points, Pt};
+use std::alloc::{AllocError, Global};
 
 /// What a shape has its width round.
 #[derive(Debug, Drop)]
@@ -31,4 +34,57 @@ pub struct ShapeView<'a> {
     pub points: &'a [Pt],
     pub width: u32,
     pub at: Pt,
+}
+
+impl Core {
+    /// An equal core. Its one error is want of memory.
+    pub fn copy(&self) -> Result<Core, AllocError>
+        ensures { IfOk result (λ core. core ≡ self.now) }
+    {
+        match self {
+            Core::Chain(points) => Ok(Core::Chain(points.copy()?)),
+            Core::Area(points) => Ok(Core::Area(points.copy()?)),
+        }
+    }
+}
+
+impl Shape {
+    /// The shape, borrowed and moved by a point, in nanometres.
+    pub fn view(&self, at: Pt) -> ShapeView<'_>
+        ensures { copper_of result ≡ placed at self.now }
+    {
+        let (area, points) = match &self.core {
+            Core::Chain(points) => (false, points.as_slice()),
+            Core::Area(points) => (true, points.as_slice()),
+        };
+        ShapeView {
+            layer: self.layer,
+            area,
+            points,
+            width: self.width,
+            at,
+        }
+    }
+
+    /// An equal shape. Its one error is want of memory.
+    pub fn copy(&self) -> Result<Shape, AllocError>
+        ensures { IfOk result (λ shape. shape ≡ self.now) }
+    {
+        Ok(Shape {
+            layer: self.layer,
+            core: self.core.copy()?,
+            width: self.width,
+        })
+    }
+}
+
+/// Equal shapes in the same order. Its one error is want of memory.
+pub fn copy_shapes(alloc: Global, shapes: &Shapes) -> Result<Shapes, AllocError>
+    ensures { IfOk result (λ all. all ≡ shapes.now) }
+{
+    let mut all = Shapes::new(alloc);
+    for shape in shapes.as_slice() {
+        all.push(shape.copy()?)?;
+    }
+    Ok(all)
 }

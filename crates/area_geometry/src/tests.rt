@@ -2,7 +2,9 @@ ghost use Rattle.std.specs.Prelude.{◌≡◌, ◌<◌, All, IsTrue};
 ghost use Rattle.seg_geometry.specs.Points.{IsInRange};
 ghost use Rattle.area_geometry.specs.Copper.{copper_of, moved, IsWithinLimits};
 
-use crate::{Core, Shape, ShapeView, Shapes, inside, shape_keeps, touches};
+use crate::{
+    Core, Shape, ShapeView, Shapes, copy_shapes, inside, lies_within, shape_keeps, touches,
+};
 use seg_geometry::{Points, Pt, Steps, in_range};
 use std::marker::Brand;
 use std::sync::ledger::{Blank, Ledger};
@@ -86,6 +88,19 @@ fn reaches<L: Ledger>(s: ShapeView<'_>, ring: &[Pt], blank: Blank) -> Option<boo
     None
 }
 
+/// What `lies_within` answers, or None where its condition isn't met.
+fn keeps_within<L: Ledger>(s: ShapeView<'_>, ring: &[Pt], blank: Blank) -> Option<bool>
+    requires name { blank.name ≡ L.name }
+    requires parts { blank.parts ≡ L.parts }
+    requires some { 0 < blank.parts }
+{
+    let mut steps = Steps::<L>::new(blank);
+    if fits(s) && ring.iter().all(|p| in_range(*p)) {
+        return Some(lies_within(s, ring, &mut steps));
+    }
+    None
+}
+
 /// What `inside` answers, or None where its condition isn't met.
 fn lies_inside(p: Pt, ring: &[Pt]) -> Option<bool> {
     if in_range(p) && ring.iter().all(|q| in_range(*q)) {
@@ -159,63 +174,31 @@ fn each_shape_keeps_its_clearance_and_no_more(rt: HostRuntime) {
         pt(0, 0),
     ];
     let hole = [pt(5_000_000, 5_000_000)];
-    let beside = moved_to(area(&pour, 0), 10_000_100, 0);
+    let one = chain(&track, 250_000);
+    let other = chain(&above, 250_000);
+    let filled = area(&pour, 0);
+    let beside = moved_to(filled, 10_000_100, 0);
     let wide = moved_to(area(&pour, 50), 10_000_100, 0);
     let other_layer = ShapeView {
         layer: 1,
         ..chain(&hole, 100)
     };
     for (s, t, c, want) in [
-        (
-            chain(&track, 250_000),
-            chain(&above, 250_000),
-            200_000,
-            true,
-        ),
-        (
-            chain(&track, 250_000),
-            chain(&above, 250_000),
-            200_001,
-            false,
-        ),
-        (
-            chain(&track, 250_000),
-            moved_to(chain(&track, 250_000), 0, 450_000),
-            200_000,
-            true,
-        ),
-        (
-            chain(&track, 250_000),
-            moved_to(chain(&track, 250_000), 0, 449_999),
-            200_000,
-            false,
-        ),
-        (area(&pour, 0), chain(&hole, 100), 0, false),
-        (area(&pour, 0), other_layer, 0, true),
-        (
-            area(&pour, 0),
-            moved_to(chain(&hole, 100), 10_000_000, 0),
-            0,
-            true,
-        ),
-        (area(&pour, 0), area(&island, 0), 0, false),
+        (one, other, 200_000, true),
+        (one, other, 200_001, false),
+        (one, moved_to(one, 0, 450_000), 200_000, true),
+        (one, moved_to(one, 0, 449_999), 200_000, false),
+        (filled, chain(&hole, 100), 0, false),
+        (filled, other_layer, 0, true),
+        (filled, moved_to(chain(&hole, 100), 10_000_000, 0), 0, true),
+        (filled, area(&island, 0), 0, false),
         (chain(&fence, 0), area(&island, 0), 1_000_000, true),
-        (
-            area(&pour, 0),
-            moved_to(area(&pour, 0), 10_000_000, 0),
-            0,
-            true,
-        ),
-        (
-            area(&pour, 0),
-            moved_to(area(&pour, 0), 10_000_000, 0),
-            1,
-            false,
-        ),
-        (area(&pour, 0), beside, 100, true),
-        (area(&pour, 0), beside, 101, false),
-        (area(&pour, 0), wide, 75, true),
-        (area(&pour, 0), wide, 76, false),
+        (filled, moved_to(filled, 10_000_000, 0), 0, true),
+        (filled, moved_to(filled, 10_000_000, 0), 1, false),
+        (filled, beside, 100, true),
+        (filled, beside, 101, false),
+        (filled, wide, 75, true),
+        (filled, wide, 76, false),
     ] {
         assert_eq!(rt;
             keeps::<Brand>(s, t, c, Blank::new(1)),
@@ -255,6 +238,53 @@ fn shapes_touch_what_they_reach(rt: HostRuntime) -> Result<(), Fail> {
         core: Core::Chain(Points::from_slice(rt.alloc(), &spot)?),
         width: 7,
     })?;
-    assert_eq!(rt; shapes.get(0).layer, 3, "the layer of a shape in a list");
+    let copied = copy_shapes(rt.alloc(), &shapes)?;
+    assert_eq!(rt; copied.len(), 1, "the length of a copied list");
+    for (x, want) in [(14, true), (15, false)] {
+        let shape = copied.get(0).view(pt(x, 5));
+        assert_eq!(rt; shape.layer, 3, "the layer of a copied shape");
+        assert_eq!(rt;
+            reaches::<Brand>(shape, &pour, Blank::new(1)),
+            Some(want),
+            "a copied shape at {x}"
+        );
+    }
     Ok(())
+}
+
+// By hand: a wire of width w lies within where its core is inside and 2 d >= w + 2 for its distance d from each edge.
+#[test]
+fn shapes_lie_within_what_they_keep_from(rt: HostRuntime) {
+    let outline = [pt(0, 0), pt(1000, 0), pt(1000, 1000), pt(0, 1000)];
+    let line = [pt(0, 0), pt(800, 0)];
+    for (x, y, width, want) in [
+        (100, 51, 100, true),
+        (100, 50, 100, false),
+        (149, 500, 100, true),
+        (150, 500, 100, false),
+        (100, 949, 100, true),
+        (100, 950, 100, false),
+        (51, 500, 100, true),
+        (50, 500, 100, false),
+        (100, 1, 0, true),
+        (100, 0, 0, false),
+        (500, 500, 100, false),
+        (2000, 500, 100, false),
+    ] {
+        let wire = moved_to(chain(&line, width), x, y);
+        assert_eq!(rt;
+            keeps_within::<Brand>(wire, &outline, Blank::new(1)),
+            Some(want),
+            "at {x} {y} with width {width}"
+        );
+    }
+    let pour = [pt(0, 0), pt(800, 0), pt(800, 998), pt(0, 998)];
+    for (x, y, want) in [(1, 1, true), (0, 1, false), (1, 2, false)] {
+        let shape = moved_to(area(&pour, 0), x, y);
+        assert_eq!(rt;
+            keeps_within::<Brand>(shape, &outline, Blank::new(1)),
+            Some(want),
+            "an area at {x} {y}"
+        );
+    }
 }
