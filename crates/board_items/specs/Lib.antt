@@ -1,2 +1,4 @@
 pub mod Adds
 pub mod Formed
+pub mod Shapes
+pub mod Weights

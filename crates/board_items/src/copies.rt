@@ -1,7 +1,10 @@
 //! Copies of requests. Their one error is want of memory.
 ghost use Rattle.std.specs.Prelude.{◌≡◌, IfOk};
 
-use crate::requests::{Add, Adds, Request};
+use crate::items::Item;
+use crate::requests::{Add, Adds, Clients, Layers, Request};
+use area_geometry::copy_shapes;
+use seg_geometry::Points;
 use std::alloc::{AllocError, Global};
 
 impl Add {
@@ -21,6 +24,11 @@ impl Add {
                 width: *width,
                 points: points.copy()?,
             }),
+            Add::Via { net, padstack, at } => Ok(Add::Via {
+                net: *net,
+                padstack: *padstack,
+                at: *at,
+            }),
         }
     }
 }
@@ -36,6 +44,17 @@ pub fn copy_adds(alloc: Global, adds: &Adds) -> Result<Adds, AllocError>
     Ok(all)
 }
 
+// A boundary of equal lists.
+fn copy_fence(layers: &Layers, area: &Points, clients: &Clients) -> Result<Request, AllocError>
+    ensures { IfOk result (λ request. request ≡ Request.Fence layers.now area.now clients.now) }
+{
+    Ok(Request::Fence {
+        layers: layers.copy()?,
+        area: area.copy()?,
+        clients: clients.copy()?,
+    })
+}
+
 impl Request {
     /// An equal request.
     pub fn copy(&self, alloc: Global) -> Result<Request, AllocError>
@@ -45,6 +64,60 @@ impl Request {
             Request::Edit { deletes, adds } => Ok(Request::Edit {
                 deletes: deletes.copy()?,
                 adds: copy_adds(alloc, adds)?,
+            }),
+            Request::Reserve { id } => Ok(Request::Reserve { id: *id }),
+            Request::Release { id } => Ok(Request::Release { id: *id }),
+            Request::Fence {
+                layers,
+                area,
+                clients,
+            } => copy_fence(layers, area, clients),
+            Request::Unfence { fence } => Ok(Request::Unfence { fence: *fence }),
+            Request::Entitle { fence, client } => Ok(Request::Entitle {
+                fence: *fence,
+                client: *client,
+            }),
+        }
+    }
+}
+
+impl Item {
+    /// An equal item.
+    pub fn copy(&self, alloc: Global) -> Result<Item, AllocError>
+        ensures { IfOk result (λ item. item ≡ self.now) }
+    {
+        match self {
+            Item::Wire {
+                net,
+                layer,
+                width,
+                points,
+                fix,
+            } => Ok(Item::Wire {
+                net: *net,
+                layer: *layer,
+                width: *width,
+                points: points.copy()?,
+                fix: *fix,
+            }),
+            Item::Via {
+                net,
+                padstack,
+                at,
+                fix,
+            } => Ok(Item::Via {
+                net: *net,
+                padstack: *padstack,
+                at: *at,
+                fix: *fix,
+            }),
+            Item::Pad { net, shapes } => Ok(Item::Pad {
+                net: *net,
+                shapes: copy_shapes(alloc, shapes)?,
+            }),
+            Item::Keep { kind, shapes } => Ok(Item::Keep {
+                kind: *kind,
+                shapes: copy_shapes(alloc, shapes)?,
             }),
         }
     }

@@ -5,13 +5,17 @@ mod copies;
 mod history;
 mod items;
 mod requests;
+mod shapes;
 mod views;
+mod weights;
 
 pub use copies::copy_adds;
-pub use history::{Act, Entries, Entry, Reply, Why};
-pub use items::{Item, ItemId};
-pub use requests::{Add, Adds, Request};
+pub use history::{Act, Call, Calls, Entries, Entry, Reply, Why};
+pub use items::{Item, ItemId, Items, KeepKind, Padstack, Stacks};
+pub use requests::{Add, Adds, Clients, Layers, Request};
+pub use shapes::{shape_at, shape_count};
 pub use views::{ItemView, view, view_add};
+pub use weights::weight;
 
 #[cfg(test)]
 mod tests;

@@ -1,5 +1,10 @@
-use crate::{Add, Adds, Item, ItemView, Request, copy_adds, view, view_add};
-use seg_geometry::{Ids, Points, Pt};
+use crate::{
+    Act, Add, Adds, Item, ItemView, KeepKind, Padstack, Request, Stacks, copy_adds, shape_at,
+    shape_count, view, view_add, weight,
+};
+use area_geometry::{Core, Shape, Shapes};
+use layout_io::Name;
+use seg_geometry::{Points, Pt};
 use std::alloc::{AllocError, Global};
 use std::test::Fail;
 
@@ -10,7 +15,18 @@ fn two_points(alloc: Global) -> Result<Points, AllocError> {
     Ok(points)
 }
 
-// By hand: layers above 255 make nothing.
+// A circle of 600,000 nm round 0 0, on this layer.
+fn circle(alloc: Global, layer: u8) -> Result<Shape, AllocError> {
+    let mut points = Points::new(alloc);
+    points.push(Pt { x: 0, y: 0 })?;
+    Ok(Shape {
+        layer,
+        core: Core::Chain(points),
+        width: 600_000,
+    })
+}
+
+// By hand: layers above 255 make nothing, and a via names no layer.
 #[test]
 fn items_and_adds_are_seen_as_they_are(rt: HostRuntime) -> Result<(), Fail> {
     for (layer, there) in [(0, true), (255, true), (256, false)] {
@@ -29,31 +45,78 @@ fn items_and_adds_are_seen_as_they_are(rt: HostRuntime) -> Result<(), Fail> {
         points: two_points(rt.alloc())?,
         fix: true,
     };
-    let ItemView::Wire {
-        net,
-        layer,
-        width,
-        points,
-        fix,
-    } = view(&item);
-    assert_eq!(rt; (net, layer, width, fix), (3, 1, 250_000, true));
-    assert_eq!(rt; points.len(), 2);
+    if let ItemView::Wire { net, fix, .. } = view(&item) {
+        assert_eq!(rt; (net, fix), (3, true));
+    }
     Ok(())
 }
 
+// By hand: the padstack's second shape lies on layer 1, and the via's place is 500 -700.
 #[test]
-fn a_copy_has_the_same_parts(rt: HostRuntime) -> Result<(), Fail> {
-    let mut adds = Adds::new(rt.alloc());
+fn a_via_has_its_padstacks_shapes_at_its_place(rt: HostRuntime) -> Result<(), Fail> {
+    let alloc = rt.alloc();
+    let mut shapes = Shapes::new(alloc);
+    shapes.push(circle(alloc, 0)?)?;
+    shapes.push(circle(alloc, 1)?)?;
+    let mut stacks = Stacks::new(alloc);
+    stacks.push(Padstack {
+        name: Name::from_slice(alloc, b"V".as_slice())?,
+        shapes,
+    })?;
+    let at = Pt { x: 500, y: -700 };
+    for (padstack, count) in [(0, 2), (1, 0)] {
+        let via = ItemView::Via {
+            net: 0,
+            padstack,
+            at,
+            fix: false,
+        };
+        assert_eq!(rt; shape_count(via, &stacks), count, "padstack {padstack}");
+    }
+    let via = ItemView::Via {
+        net: 0,
+        padstack: 0,
+        at,
+        fix: false,
+    };
+    let shape = shape_at(via, &stacks, 1);
+    assert_eq!(rt; (shape.layer, shape.width, shape.at), (1, 600_000, at));
+    Ok(())
+}
+
+// By hand, of the format's weights.
+#[test]
+fn acts_weigh_what_they_are(rt: HostRuntime) -> Result<(), Fail> {
+    let alloc = rt.alloc();
+    let mut adds = Adds::new(alloc);
     adds.push(Add::Wire {
         net: 3,
         layer: 1,
         width: 250_000,
-        points: two_points(rt.alloc())?,
+        points: two_points(alloc)?,
     })?;
-    let mut deletes = Ids::new(rt.alloc());
-    deletes.push(7)?;
-    let Request::Edit { deletes, adds } = Request::Edit { deletes, adds }.copy(rt.alloc())?;
-    assert_eq!(rt; deletes.as_slice(), [7].as_slice());
-    assert_eq!(rt; copy_adds(rt.alloc(), &adds)?.len(), 1);
+    assert_eq!(rt; copy_adds(alloc, &adds)?.len(), 1);
+    let request = Request::Entitle {
+        fence: 1,
+        client: 1,
+    };
+    let act = Act::Ask {
+        request: request.copy(alloc)?,
+    };
+    assert_eq!(rt; (weight(&act), weight(&Act::Leave)), (3, 2));
+    let keep = Item::Keep {
+        kind: KeepKind::Vias,
+        shapes: Shapes::new(alloc),
+    };
+    let same = keep.copy(alloc)?;
+    assert!(rt;
+        matches!(
+            view(&same),
+            ItemView::Keep {
+                kind: KeepKind::Vias,
+                ..
+            }
+        )
+    );
     Ok(())
 }

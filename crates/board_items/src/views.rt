@@ -2,8 +2,9 @@
 ghost use Rattle.std.specs.Prelude.{◌≡◌, ◌<◌, IfSome, IfNone};
 ghost use Rattle.board_items.specs.Adds.{layer_of_add, item_of_add, item_seen};
 
-use crate::items::Item;
+use crate::items::{Item, KeepKind};
 use crate::requests::Add;
+use area_geometry::Shapes;
 use seg_geometry::Pt;
 
 /// A borrowed item, as `Item`.
@@ -15,6 +16,20 @@ pub enum ItemView<'a> {
         width: u32,
         points: &'a [Pt],
         fix: bool,
+    },
+    Via {
+        net: u32,
+        padstack: u32,
+        at: Pt,
+        fix: bool,
+    },
+    Pad {
+        net: Option<u32>,
+        shapes: &'a Shapes,
+    },
+    Keep {
+        kind: KeepKind,
+        shapes: &'a Shapes,
     },
 }
 
@@ -35,6 +50,22 @@ pub fn view(item: &Item) -> ItemView<'_>
             width: *width,
             points: points.as_slice(),
             fix: *fix,
+        },
+        Item::Via {
+            net,
+            padstack,
+            at,
+            fix,
+        } => ItemView::Via {
+            net: *net,
+            padstack: *padstack,
+            at: *at,
+            fix: *fix,
+        },
+        Item::Pad { net, shapes } => ItemView::Pad { net: *net, shapes },
+        Item::Keep { kind, shapes } => ItemView::Keep {
+            kind: *kind,
+            shapes,
         },
     }
 }
@@ -60,5 +91,11 @@ pub fn view_add(add: &Add) -> Option<ItemView<'_>>
                 fix: false,
             })
         }
+        Add::Via { net, padstack, at } => Some(ItemView::Via {
+            net: *net,
+            padstack: *padstack,
+            at: *at,
+            fix: false,
+        }),
     }
 }
