@@ -1,2 +1,5 @@
-pub mod Chains
+pub mod Designs
+pub mod Classes
 pub mod Needs
+pub mod Reasons
+pub mod FitAdds

@@ -1,37 +1,85 @@
--- The clearance that two items must keep, and when they keep it.
-use Rattle.std.specs.Prelude.{ℕ, ◌≤◌, ◌<◌, ◌+◌, ◌*◌, ◌==◌, max, Option, Some, None, Bool, if◌then◌else◌, IfSome, List, length}
-use Rattle.std.specs.List.{AllByRecursion}
-use Rattle.seg_geometry.specs.Points.{IsInRange}
-use Rattle.seg_geometry.specs.declared.points.Pt.{Pt}
+-- The clearance that two items must keep, and when they keep it; all lengths in nanometres
+-- Models: rules and classes of the SPECCTRA reference. Cited by `need` and `pair_keeps`
+use Rattle.std.specs.Prelude.{ℕ, ◌==◌, ◌&&◌, ◌||◌, max, Option, Some, None, Bool, true, false, if◌then◌else◌, List, [], ◌∷◌, All, ⊤}
+use Rattle.std.specs.List.{list_all}
+use Rattle.area_geometry.specs.Apart.{AreShapesApart}
+use Rattle.area_geometry.specs.declared.shapes.Shape.{Shape}
 use Rattle.board_items.specs.declared.items.Item.{Item}
 use Rattle.board_items.specs.declared.items.Item.TheVariants as items
-use Rattle.board_rules.specs.declared.design.Design.{Design}
-use Rattle.board_rules.specs.Chains.{AreChainsApart}
+use Rattle.board_items.specs.declared.items.KeepKind.{KeepKind}
+use Rattle.board_items.specs.declared.items.KeepKind.TheVariants as keeps
+use Rattle.board_items.specs.declared.items.Padstack.{Padstack}
+use Rattle.board_items.specs.Shapes.{copper_of_item}
+use Rattle.board_rules.specs.declared.design.Kind.{Kind}
+use Rattle.board_rules.specs.declared.design.Kind.TheVariants as kinds
+use Rattle.board_rules.specs.declared.design.Parts.{Parts}
+use Rattle.board_rules.specs.declared.needs.Role.{Role}
+use Rattle.board_rules.specs.declared.needs.Role.TheVariants.{Copper, Keepout}
+use Rattle.board_rules.specs.Classes.{class_value}
 
--- the clearance in nm that two items must keep: none within a net, else the rule's, and at least 1
-abbrev pub need_of : Design → Item → Item → Option ℕ
-need_of d (items.Wire net layer width points fix) (items.Wire other other_layer other_width other_points other_fix) =
-    if net == other then None else Some (max 1 d.rule.clearance)
+-- the shapes lie on exactly one layer
+abbrev pub is_on_one_layer : List Shape → Bool
+is_on_one_layer [] = false
+is_on_one_layer (s ∷ rest) = list_all (λ t. t.layer == s.layer) rest
 
--- two items keep a distance c in nm between their edges; on two layers they always do
-abbrev pub AreApart : Item → Item → ℕ → Type 0
-AreApart (items.Wire net layer width points fix) (items.Wire other other_layer other_width other_points other_fix) c =
-    IfSome (if layer == other_layer then Some c else None) (λ gap. AreChainsApart points other_points (width + other_width + 2 * gap))
+abbrev pub role_of : Item → Role
+role_of (items.Wire net layer width points fix) = Copper kinds.Wire
+role_of (items.Via net padstack place fix) = Copper kinds.Via
+role_of (items.Pad net shapes) = Copper (if is_on_one_layer shapes then kinds.Smd else kinds.Pin)
+role_of (items.Keep kind shapes) = Keepout kind
+
+-- the net of an item; a pad may have none, and a keepout has none
+abbrev pub net_of : Item → Option ℕ
+net_of (items.Wire net layer width points fix) = Some net
+net_of (items.Via net padstack place fix) = Some net
+net_of (items.Pad net shapes) = net
+net_of (items.Keep kind shapes) = None
+
+-- pads and keepouts are fixed, and wires and vias that say so
+abbrev pub is_fixed : Item → Bool
+is_fixed (items.Wire net layer width points fix) = fix
+is_fixed (items.Via net padstack place fix) = fix
+is_fixed (items.Pad net shapes) = true
+is_fixed (items.Keep kind shapes) = true
+
+-- both have a net, and it is the same
+abbrev pub is_same_net : Option ℕ → Option ℕ → Bool
+is_same_net (Some n) (Some m) = n == m
+is_same_net _ _ = false
+
+-- what a keepout bars
+abbrev pub bars : KeepKind → Kind → Bool
+bars keeps.All kinds.Wire = true
+bars keeps.All kinds.Via = true
+bars keeps.Vias kinds.Via = true
+bars keeps.Wires kinds.Wire = true
+bars _ _ = false
+
+-- 1 nm from what a keepout bars, else nothing
+abbrev pub barred : KeepKind → Kind → Option ℕ
+barred keep kind = if bars keep kind then Some 1 else None
+
+-- what two roles must keep, of items of these nets: between copper the largest of 1 nm and both classes' values
+abbrev pub gap_of : Parts → Role → Option ℕ → Role → Option ℕ → Option ℕ
+gap_of p (Copper k) net (Copper l) other = Some (max 1 (max (class_value p net k l) (class_value p other k l)))
+gap_of p (Copper k) net (Keepout keep) other = barred keep k
+gap_of p (Keepout keep) net (Copper l) other = barred keep l
+gap_of p (Keepout keep) net (Keepout other_keep) other = None
+
+-- the clearance that two items must keep, or none: none within a net, and none between two fixed ones
+abbrev pub need_of : Parts → Item → Item → Option ℕ
+need_of p a b =
+    if is_same_net (net_of a) (net_of b) || (is_fixed a && is_fixed b) then None else gap_of p (role_of a) (net_of a) (role_of b) (net_of b)
+
+-- each shape of the one is apart by c from each shape of the other
+pub record AreApart (stacks : List Padstack) (a b : Item) (c : ℕ) : Type 0 where
+  pub apart : All (λ s. All (λ t. AreShapesApart s t c) (copper_of_item stacks b)) (copper_of_item stacks a)
+
+-- two items have this need, or none, and keep it
+abbrev pub Keeps : List Padstack → Item → Item → Option ℕ → Type 0
+Keeps stacks a b None = ⊤
+Keeps stacks a b (Some c) = AreApart stacks a b c
 
 -- two items have no need, or keep it
-abbrev pub KeepsNeed : Design → Item → Item → Type 0
-KeepsNeed d a b = IfSome (need_of d a b) (AreApart a b)
-
--- the numbers that an item on a board has: a width within the limits, and points in range
-pub record IsFitWire (width : ℕ) (points : List Pt) : Type 0 where
-  pub width_fits : width ≤ 100000000
-  pub some : 0 < length points
-  pub in_range : AllByRecursion IsInRange points
-
-abbrev pub IsFitItem : Item → Type 0
-IsFitItem (items.Wire net layer width points fix) = IsFitWire width points
-
--- the numbers that a rule has
-pub record IsFitDesign (d : Design) : Type 0 where
-  pub width_fits : d.rule.width ≤ 100000000
-  pub clearance_fits : d.rule.clearance ≤ 100000000
+pub record KeepsNeed (p : Parts) (a b : Item) : Type 0 where
+  pub keeps : Keeps p.stacks a b (need_of p a b)

@@ -1,25 +1,160 @@
 //! The design that a board is made of.
+ghost use Rattle.std.specs.Prelude.{◌≡◌, ◌<◌, ◌≤◌, ◌^◌, length, slice_get, Some, IfOk, IfSome};
+ghost use Rattle.board_rules.specs.Designs.{IsSound};
 
+use board_items::{Items, Stacks};
 use layout_io::Name;
 use row_lists::Row;
+use seg_geometry::{Ids, Points};
+use std::alloc::AllocError;
 
 /// Names in the design's order.
 pub type Names = Row<Name>;
 
-/// The width and the clearance that hold for every net, in nm.
-#[derive(Clone, Copy, Debug, PartialEq, Eq)]
-pub struct Rule {
-    /// The least width of a wire that a client adds, 0 to 100,000,000.
-    pub width: u32,
-    /// What items of two nets must keep, 0 to 100,000,000. Less than 1 stands for 1.
-    pub clearance: u32,
+/// Areas, each by the points of its ring, in nm.
+pub type Areas = Row<Points>;
+
+/// The kind of an item for a clearance. A pad is `Smd` where its shapes lie on exactly one layer, else `Pin`.
+#[derive(Clone, Copy, Debug)]
+pub enum Kind {
+    Wire,
+    Via,
+    Pin,
+    Smd,
 }
 
-/// A design: its name, its layers and its nets, which are numbered from 0, and its rule.
+/// What a clearance is stated for.
+#[derive(Clone, Copy, Debug)]
+pub enum What {
+    /// All for which nothing closer is stated.
+    Untyped,
+    /// Two items of which exactly one is a pad on one layer.
+    DefaultSmd,
+    /// Items of these two kinds, in either order.
+    Pair { a: Kind, b: Kind },
+}
+
+/// A clearance in nm, 0 to 100,000,000, and what it is stated for.
+#[derive(Clone, Copy, Debug)]
+pub struct Stated {
+    pub what: What,
+    pub value: u32,
+}
+
+/// Stated clearances in the design's order. Of those that state the same thing the last one holds.
+pub type StatedRows = Row<Stated>;
+
+/// What holds for the nets of a class. A class that states no width, and no list of vias, has the structure's.
 #[derive(Debug, Drop)]
-pub struct Design {
+pub struct ClassRow {
+    pub name: Name,
+    /// The least width of a wire that a client adds, in nm, 0 to 100,000,000.
+    pub width: Option<u32>,
+    /// The padstacks that its vias may have.
+    pub vias: Option<Ids>,
+    pub clearances: StatedRows,
+}
+
+/// Classes in the design's order. Class 0 is the structure's rule, with an empty name.
+pub type ClassRows = Row<ClassRow>;
+
+/// A net and its class, which is 0 where no class names it.
+#[derive(Debug, Drop)]
+pub struct NetRow {
+    pub name: Name,
+    pub class: u32,
+}
+
+/// Nets in the design's order.
+pub type NetRows = Row<NetRow>;
+
+/// What a design is made of. Layers, padstacks, nets and classes are numbered from 0 in these orders.
+#[derive(Debug, Drop)]
+pub struct Parts {
     pub name: Name,
     pub layers: Names,
-    pub nets: Names,
-    pub rule: Rule,
+    pub stacks: Stacks,
+    pub nets: NetRows,
+    pub classes: ClassRows,
+    /// The areas in which copper has to lie; without one it may lie anywhere.
+    pub outline: Areas,
+    /// The loaded items in the order of their numbers.
+    pub items: Items,
+}
+
+/// A design.
+#[derive(Debug, Drop)]
+pub struct Design {
+    pub(crate) parts: Parts,
+}
+
+impl Design {
+    /// The design of its parts. Its one error is want of memory.
+    pub fn of_parts(parts: Parts) -> Result<Design, AllocError>
+        requires { IsSound parts }
+        ensures { IfOk result (λ d. d.parts ≡ parts) }
+    {
+        Ok(Design { parts })
+    }
+
+    /// The design's name.
+    pub fn name(&self) -> &Name
+        ensures { result.now ≡ self.now.parts.name }
+    {
+        &self.parts.name
+    }
+
+    /// How many layers the design has.
+    pub fn layer_count(&self) -> u32
+        requires { IsSound self.now.parts }
+        ensures { result ≡ length self.now.parts.layers }
+    {
+        self.parts.layers.len() as u32
+    }
+
+    /// The name of the layer `i`, from 0.
+    pub fn layer_name(&self, i: u32) -> &Name
+        requires { i < length self.now.parts.layers }
+        ensures { slice_get self.now.parts.layers i ≡ Some result.now }
+    {
+        self.parts.layers.get(i as usize)
+    }
+
+    /// How many nets the design has.
+    pub fn net_count(&self) -> u32
+        requires { IsSound self.now.parts }
+        ensures { result ≡ length self.now.parts.nets }
+    {
+        self.parts.nets.len() as u32
+    }
+
+    /// The name of the net `i`, from 0.
+    pub fn net_name(&self, i: u32) -> &Name
+        requires { i < length self.now.parts.nets }
+        ensures { IfSome (slice_get self.now.parts.nets i) (λ row. row.name ≡ result.now) }
+    {
+        &self.parts.nets.get(i as usize).name
+    }
+
+    /// The padstacks in the design's order.
+    pub fn stacks(&self) -> &Stacks
+        ensures { result.now ≡ self.now.parts.stacks }
+    {
+        &self.parts.stacks
+    }
+
+    /// The loaded items in the order of their numbers.
+    pub fn items(&self) -> &Items
+        ensures { result.now ≡ self.now.parts.items }
+    {
+        &self.parts.items
+    }
+
+    /// How many areas the outline has.
+    pub fn outline_count(&self) -> u32
+        requires { IsSound self.now.parts }
+        ensures { result ≡ length self.now.parts.outline }
+    {
+        self.parts.outline.len() as u32
+    }
 }

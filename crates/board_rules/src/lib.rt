@@ -1,11 +1,31 @@
-//! The design of a board, and the clearance that its copper must keep.
+//! The design of a board, the clearance that its copper must keep, and why an edit may not be made on any board.
 #![tactic(auto)]
 
-mod chains;
+mod added_vias;
+mod added_wires;
+mod adds;
+mod copies;
 mod design;
+mod fences;
+mod kinds;
+mod largest;
+mod laws;
+mod needs;
+mod outline;
+mod own;
 mod pairs;
+mod reasons;
+mod vias;
 
-pub use design::{Design, Names, Rule};
+pub use design::{
+    Areas, ClassRow, ClassRows, Design, Kind, Names, NetRow, NetRows, Parts, Stated, StatedRows,
+    What,
+};
+pub use laws::{need_is_at_most_the_largest_clearance, need_is_the_same_both_ways};
 
+#[cfg(test)]
+mod fits;
+#[cfg(test)]
+mod samples;
 #[cfg(test)]
 mod tests;

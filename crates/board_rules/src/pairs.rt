@@ -1,69 +1,79 @@
 //! Two items of a board against each other.
-ghost use Rattle.std.specs.Prelude.{◌≡◌, ◌≤◌, ◌↔◌, IsTrue};
+ghost use Rattle.std.specs.Prelude.{◌≡◌, ◌≤◌, ◌<◌, ◌^◌, ◌↔◌, length, All, IsTrue};
+ghost use Rattle.area_geometry.specs.Copper.{copper_of, IsWithinLimits};
+ghost use Rattle.area_geometry.specs.Apart.{AreShapesApart};
 ghost use Rattle.board_items.specs.Adds.{item_seen};
-ghost use Rattle.board_rules.specs.Needs.{need_of, AreApart, KeepsNeed, IsFitItem, IsFitDesign};
+ghost use Rattle.board_items.specs.Shapes.{copper_of_item};
+ghost use Rattle.board_rules.specs.Designs.{IsSound, IsFitItem};
+ghost use Rattle.board_rules.specs.Needs.{AreApart, KeepsNeed};
 
-use crate::chains::chains_keep;
 use crate::design::Design;
-use board_items::ItemView;
+use area_geometry::{ShapeView, shape_keeps};
+use board_items::{ItemView, Stacks, shape_at, shape_count};
 use seg_geometry::Steps;
 use std::sync::ledger::Ledger;
 
-impl Design {
-    /// The clearance in nm that two items must keep, or none. It is the same both ways round.
-    pub fn need(&self, a: ItemView<'_>, b: ItemView<'_>) -> Option<u32>
-        ensures { result ≡ need_of self.now (item_seen a.entry) (item_seen b.entry) }
-    {
-        let ItemView::Wire { net, .. } = a;
-        let ItemView::Wire { net: other, .. } = b;
-        if net == other {
-            None
-        } else {
-            Some(self.rule.clearance.max(1))
+// Whether a shape keeps a distance in nm from each shape of an item.
+fn shape_clears<L: Ledger>(
+    s: ShapeView<'_>,
+    b: ItemView<'_>,
+    stacks: &Stacks,
+    gap: u32,
+    steps: &mut Steps<L>,
+) -> bool
+    requires s_in { IsWithinLimits (copper_of s) }
+    requires b_in { All IsWithinLimits (copper_of_item stacks.now (item_seen b)) }
+    requires b_few { length (copper_of_item stacks.now (item_seen b)) < 2 ^ 32 }
+    requires gap_fits { gap ≤ 100000000 }
+    ensures { IsTrue result ↔ All (λ t. AreShapesApart (copper_of s.entry) t gap) (copper_of_item stacks.now (item_seen b.entry)) }
+{
+    for j in 0..shape_count(b, stacks) {
+        if !shape_keeps(s, shape_at(b, stacks, j), gap, steps) {
+            return false;
         }
     }
+    true
+}
 
-    /// Whether two items have no need, or keep it.
+// Whether each shape of the one item keeps a distance in nm from each shape of the other.
+fn items_keep<L: Ledger>(
+    a: ItemView<'_>,
+    b: ItemView<'_>,
+    stacks: &Stacks,
+    gap: u32,
+    steps: &mut Steps<L>,
+) -> bool
+    requires a_in { All IsWithinLimits (copper_of_item stacks.now (item_seen a)) }
+    requires a_few { length (copper_of_item stacks.now (item_seen a)) < 2 ^ 32 }
+    requires b_in { All IsWithinLimits (copper_of_item stacks.now (item_seen b)) }
+    requires b_few { length (copper_of_item stacks.now (item_seen b)) < 2 ^ 32 }
+    requires gap_fits { gap ≤ 100000000 }
+    ensures { IsTrue result ↔ AreApart stacks.now (item_seen a.entry) (item_seen b.entry) gap }
+{
+    for i in 0..shape_count(a, stacks) {
+        if !shape_clears(shape_at(a, stacks, i), b, stacks, gap, steps) {
+            return false;
+        }
+    }
+    true
+}
+
+impl Design {
+    /// Whether two items have no need, or keep it. It takes no memory.
     pub fn pair_keeps<L: Ledger>(
         &self,
         a: ItemView<'_>,
         b: ItemView<'_>,
         steps: &mut Steps<L>,
     ) -> bool
-        requires design { IsFitDesign self.now }
-        requires a_fits { IsFitItem (item_seen a) }
-        requires b_fits { IsFitItem (item_seen b) }
-        ensures { IsTrue result ↔ KeepsNeed self.now (item_seen a.entry) (item_seen b.entry) }
+        requires design { IsSound self.now.parts }
+        requires a_fits { IsFitItem self.now.parts (item_seen a) }
+        requires b_fits { IsFitItem self.now.parts (item_seen b) }
+        ensures { IsTrue result ↔ KeepsNeed self.now.parts (item_seen a.entry) (item_seen b.entry) }
     {
         match self.need(a, b) {
             None => true,
-            Some(gap) => items_keep(a, b, gap, steps),
+            Some(gap) => items_keep(a, b, &self.parts.stacks, gap, steps),
         }
     }
-}
-
-// Whether two items keep a distance in nm.
-fn items_keep<L: Ledger>(a: ItemView<'_>, b: ItemView<'_>, gap: u32, steps: &mut Steps<L>) -> bool
-    requires a_fits { IsFitItem (item_seen a) }
-    requires b_fits { IsFitItem (item_seen b) }
-    requires gap_fits { gap ≤ 100000000 }
-    ensures { IsTrue result ↔ AreApart (item_seen a.entry) (item_seen b.entry) gap }
-{
-    let ItemView::Wire {
-        layer,
-        width,
-        points,
-        ..
-    } = a;
-    let ItemView::Wire {
-        layer: other_layer,
-        width: other_width,
-        points: other_points,
-        ..
-    } = b;
-    if layer != other_layer {
-        return true;
-    }
-    let k = u64::from(width) + u64::from(other_width) + 2 * u64::from(gap);
-    chains_keep(points, other_points, k, steps)
 }

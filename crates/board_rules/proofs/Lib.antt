@@ -1,0 +1,4 @@
+pub mod Gaps
+pub mod BothWays
+pub mod Walked
+pub mod FitRequests

@@ -1,0 +1,100 @@
+-- What a class of nets states for widths, vias and clearances, in nanometres. Cited by `need`, `largest_clearance` and `static_why`
+use Rattle.std.specs.Prelude.{ℕ, ◌&&◌, ◌||◌, Option, Some, None, Bool, true, false, not, if◌then◌else◌, max, List, [], ◌∷◌, slice_get}
+use Rattle.board_rules.specs.declared.design.Kind.{Kind}
+use Rattle.board_rules.specs.declared.design.Kind.TheVariants as kinds
+use Rattle.board_rules.specs.declared.design.What.{What}
+use Rattle.board_rules.specs.declared.design.What.TheVariants as whats
+use Rattle.board_rules.specs.declared.design.Stated.{Stated}
+use Rattle.board_rules.specs.declared.design.ClassRow.{ClassRow}
+use Rattle.board_rules.specs.declared.design.NetRow.{NetRow}
+use Rattle.board_rules.specs.declared.design.Parts.{Parts}
+
+abbrev pub same_kind : Kind → Kind → Bool
+same_kind kinds.Wire kinds.Wire = true
+same_kind kinds.Via kinds.Via = true
+same_kind kinds.Pin kinds.Pin = true
+same_kind kinds.Smd kinds.Smd = true
+same_kind _ _ = false
+
+-- two statements are of the same thing: two pairs of kinds in either order
+abbrev pub same_what : What → What → Bool
+same_what whats.Untyped whats.Untyped = true
+same_what whats.DefaultSmd whats.DefaultSmd = true
+same_what (whats.Pair a b) (whats.Pair c d) = (same_kind a c && same_kind b d) || (same_kind a d && same_kind b c)
+same_what _ _ = false
+
+-- the first of two that is there
+abbrev pub or_else : Option ℕ → Option ℕ → Option ℕ
+or_else (Some n) other = Some n
+or_else None other = other
+
+-- the value that the last statement of this thing gives
+abbrev pub value_of : What → List Stated → Option ℕ
+value_of what [] = None
+value_of what (s ∷ rest) = or_else (value_of what rest) (if same_what s.what what then Some s.value else None)
+
+-- exactly one of the two is a pad on one layer
+abbrev pub is_one_smd : Kind → Kind → Bool
+is_one_smd k l = (same_kind k kinds.Smd && not (same_kind l kinds.Smd)) || (same_kind l kinds.Smd && not (same_kind k kinds.Smd))
+
+-- what a list of statements gives two kinds: the pair's own value, then that for one pad on one layer, then the untyped one
+abbrev pub rows_value : List Stated → Kind → Kind → Option ℕ
+rows_value rows k l =
+    or_else (value_of (whats.Pair k l) rows) (or_else (if is_one_smd k l then value_of whats.DefaultSmd rows else None) (value_of whats.Untyped rows))
+
+-- the statements of a class; none where there is no such class
+abbrev pub stated_in : Option ClassRow → List Stated
+stated_in None = []
+stated_in (Some c) = c.clearances
+
+abbrev pub width_in : Option ClassRow → Option ℕ
+width_in None = None
+width_in (Some c) = c.width
+
+abbrev pub vias_in : Option ClassRow → Option (List ℕ)
+vias_in None = None
+vias_in (Some c) = c.vias
+
+-- the class of a net; without a net it is class 0, the structure's rule
+abbrev pub class_in : Option NetRow → ℕ
+class_in None = 0
+class_in (Some n) = n.class
+
+abbrev pub class_of : Parts → Option ℕ → ℕ
+class_of p None = 0
+class_of p (Some net) = class_in (slice_get p.nets net)
+
+abbrev pub or_zero : Option ℕ → ℕ
+or_zero None = 0
+or_zero (Some n) = n
+
+-- what the class of a net gives two kinds: its own statements, then the structure's, then 0
+abbrev pub class_value : Parts → Option ℕ → Kind → Kind → ℕ
+class_value p net k l =
+    or_zero (or_else (rows_value (stated_in (slice_get p.classes (class_of p net))) k l) (rows_value (stated_in (slice_get p.classes 0)) k l))
+
+-- the least width of a net's wires: its class's, then the structure's, then 0
+abbrev pub width_of : Parts → ℕ → ℕ
+width_of p net = or_zero (or_else (width_in (slice_get p.classes (class_of p (Some net)))) (width_in (slice_get p.classes 0)))
+
+-- the padstacks of a net's vias: its class's list, else the structure's, else none
+abbrev pub list_of : Option (List ℕ) → Option (List ℕ) → List ℕ
+list_of (Some own) other = own
+list_of None (Some other) = other
+list_of None None = []
+
+abbrev pub vias_of : Parts → ℕ → List ℕ
+vias_of p net = list_of (vias_in (slice_get p.classes (class_of p (Some net)))) (vias_in (slice_get p.classes 0))
+
+-- the largest of these statements' values; 0 without any
+abbrev pub largest_in : List Stated → ℕ
+largest_in [] = 0
+largest_in (s ∷ rest) = max s.value (largest_in rest)
+
+abbrev pub largest_over : List ClassRow → ℕ
+largest_over [] = 0
+largest_over (c ∷ rest) = max (largest_in c.clearances) (largest_over rest)
+
+-- the largest clearance that a class states, at least 1
+abbrev pub largest_of : Parts → ℕ
+largest_of p = max 1 (largest_over p.classes)

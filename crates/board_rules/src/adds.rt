@@ -1,0 +1,47 @@
+//! The first reason against adds by themselves.
+ghost use Rattle.std.specs.Prelude.{◌≤◌, length};
+ghost use Rattle.std.specs.List.{AllByRecursion};
+ghost use Rattle.board_items.specs.Formed.{IsFormedAdd};
+ghost use Rattle.board_rules.specs.Designs.{IsSound};
+ghost use Rattle.board_rules.specs.Reasons.{IsAddReason, IsAddsReason};
+
+use crate::design::Design;
+use board_items::{Add, Why};
+use seg_geometry::Steps;
+use std::sync::ledger::Ledger;
+
+impl Design {
+    // The first reason against the add of number `a` by itself.
+    fn add_why<L: Ledger>(&self, a: u32, add: &Add, steps: &mut Steps<L>) -> Option<Why>
+        requires design { IsSound self.now.parts }
+        requires formed { IsFormedAdd add.now }
+        ensures { IsAddReason self.now.parts a add.now result }
+    {
+        match add {
+            Add::Wire {
+                net,
+                layer,
+                width,
+                points,
+            } => self.wire_why(a, *net, *layer, *width, points.as_slice(), steps),
+            Add::Via { net, padstack, at } => self.via_why(a, *net, *padstack, *at, steps),
+        }
+    }
+
+    // The first reason against adds by themselves.
+    pub(crate) fn adds_why<L: Ledger>(&self, adds: &[Add], steps: &mut Steps<L>) -> Option<Why>
+        requires design { IsSound self.now.parts }
+        requires formed { AllByRecursion IsFormedAdd adds.now }
+        requires few { length adds.now ≤ 64 }
+        ensures { IsAddsReason self.now.parts 1 adds.now result }
+    {
+        let mut a = 1;
+        for add in adds {
+            if let Some(why) = self.add_why(a, add, steps) {
+                return Some(why);
+            }
+            a += 1;
+        }
+        None
+    }
+}

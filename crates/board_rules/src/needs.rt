@@ -1,0 +1,189 @@
+//! The clearance that two items must keep.
+ghost use Rattle.std.specs.Prelude.{◌≡◌, ◌==◌, slice_get, max, if◌then◌else◌};
+ghost use Rattle.std.specs.List.{list_all};
+ghost use Rattle.board_items.specs.Adds.{item_seen};
+ghost use Rattle.board_rules.specs.Classes.{rows_value, stated_in, class_in, class_of, class_value};
+ghost use Rattle.board_rules.specs.Needs.{is_on_one_layer, role_of, net_of, is_fixed, is_same_net, bars, barred, gap_of, need_of};
+
+use crate::design::{Design, Kind, NetRows};
+use crate::kinds::{or_else, rows_value};
+use area_geometry::{Shape, Shapes};
+use board_items::{ItemView, KeepKind};
+
+// What an item is to a clearance: copper of a kind, or a keepout.
+#[derive(Clone, Copy)]
+pub(crate) enum Role {
+    Copper { kind: Kind },
+    Keepout { kind: KeepKind },
+}
+
+// Whether all of the shapes lie on this layer.
+fn lie_on(shapes: &[Shape], layer: u8) -> bool
+    ensures { result ≡ list_all (λ t. t.layer == layer) shapes.now }
+{
+    for shape in shapes {
+        if shape.layer != layer {
+            return false;
+        }
+    }
+    true
+}
+
+// Whether the shapes lie on exactly one layer.
+fn is_on_one_layer(shapes: &[Shape]) -> bool
+    ensures { result ≡ is_on_one_layer shapes.now }
+{
+    match shapes.split_first() {
+        None => false,
+        Some((first, rest)) => lie_on(rest, first.layer),
+    }
+}
+
+// The kind of a pad of these shapes.
+fn pad_kind(shapes: &Shapes) -> Kind
+    ensures { result ≡ (if is_on_one_layer shapes.now then Kind.Smd else Kind.Pin) }
+{
+    if is_on_one_layer(shapes.as_slice()) {
+        Kind::Smd
+    } else {
+        Kind::Pin
+    }
+}
+
+fn role_of(item: ItemView<'_>) -> Role
+    ensures { result ≡ role_of (item_seen item.entry) }
+{
+    match item {
+        ItemView::Wire { .. } => Role::Copper { kind: Kind::Wire },
+        ItemView::Via { .. } => Role::Copper { kind: Kind::Via },
+        ItemView::Pad { shapes, .. } => Role::Copper {
+            kind: pad_kind(shapes),
+        },
+        ItemView::Keep { kind, .. } => Role::Keepout { kind },
+    }
+}
+
+fn net_of(item: ItemView<'_>) -> Option<u32>
+    ensures { result ≡ net_of (item_seen item.entry) }
+{
+    match item {
+        ItemView::Wire { net, .. } => Some(net),
+        ItemView::Via { net, .. } => Some(net),
+        ItemView::Pad { net, .. } => net,
+        ItemView::Keep { .. } => None,
+    }
+}
+
+fn is_fixed(item: ItemView<'_>) -> bool
+    ensures { result ≡ is_fixed (item_seen item.entry) }
+{
+    match item {
+        ItemView::Wire { fix, .. } => fix,
+        ItemView::Via { fix, .. } => fix,
+        ItemView::Pad { .. } => true,
+        ItemView::Keep { .. } => true,
+    }
+}
+
+// Whether both have a net, and it is the same.
+fn is_same_net(a: Option<u32>, b: Option<u32>) -> bool
+    ensures { result ≡ is_same_net a b }
+{
+    match (a, b) {
+        (Some(n), Some(m)) => n == m,
+        _ => false,
+    }
+}
+
+fn bars(keep: KeepKind, kind: Kind) -> bool
+    ensures { result ≡ bars keep kind }
+{
+    match (keep, kind) {
+        (KeepKind::All, Kind::Wire) => true,
+        (KeepKind::All, Kind::Via) => true,
+        (KeepKind::Vias, Kind::Via) => true,
+        (KeepKind::Wires, Kind::Wire) => true,
+        _ => false,
+    }
+}
+
+// 1 nm from what a keepout bars, else nothing.
+fn barred(keep: KeepKind, kind: Kind) -> Option<u32>
+    ensures { result ≡ barred keep kind }
+{
+    if bars(keep, kind) { Some(1) } else { None }
+}
+
+// The class of a net that may not be there.
+fn net_class(nets: &NetRows, net: u32) -> u32
+    ensures { result ≡ class_in (slice_get nets.now net) }
+{
+    match nets.as_slice().get(net as usize) {
+        None => 0,
+        Some(row) => row.class,
+    }
+}
+
+impl Design {
+    // The class of a net; without a net it is class 0.
+    fn class_of(&self, net: Option<u32>) -> u32
+        ensures { result ≡ class_of self.now.parts net }
+    {
+        match net {
+            None => 0,
+            Some(net) => net_class(&self.parts.nets, net),
+        }
+    }
+
+    // What the statements of a class give two kinds.
+    fn stated(&self, class: u32, k: Kind, l: Kind) -> Option<u32>
+        ensures { result ≡ rows_value (stated_in (slice_get self.now.parts.classes class)) k l }
+    {
+        match self.parts.classes.as_slice().get(class as usize) {
+            None => rows_value(&[], k, l),
+            Some(row) => rows_value(row.clearances.as_slice(), k, l),
+        }
+    }
+
+    // What the class of a net gives two kinds: its own statements, then the structure's, then 0.
+    fn class_value(&self, net: Option<u32>, k: Kind, l: Kind) -> u32
+        ensures { result ≡ class_value self.now.parts net k l }
+    {
+        let own = self.stated(self.class_of(net), k, l);
+        or_else(own, self.stated(0, k, l)).unwrap_or(0)
+    }
+
+    // What copper of two nets must keep.
+    fn copper_gap(&self, k: Kind, net: Option<u32>, l: Kind, other: Option<u32>) -> u32
+        ensures { result ≡ max 1 (max (class_value self.now.parts net k l) (class_value self.now.parts other k l)) }
+    {
+        let own = self.class_value(net, k, l);
+        1u32.max(own.max(self.class_value(other, k, l)))
+    }
+
+    // What two roles must keep, of items of these nets.
+    fn gap(&self, a: Role, net: Option<u32>, b: Role, other: Option<u32>) -> Option<u32>
+        ensures { result ≡ gap_of self.now.parts a net b other }
+    {
+        match (a, b) {
+            (Role::Copper { kind: k }, Role::Copper { kind: l }) => {
+                Some(self.copper_gap(k, net, l, other))
+            }
+            (Role::Copper { kind }, Role::Keepout { kind: keep }) => barred(keep, kind),
+            (Role::Keepout { kind: keep }, Role::Copper { kind }) => barred(keep, kind),
+            (Role::Keepout { .. }, Role::Keepout { .. }) => None,
+        }
+    }
+
+    /// The clearance in nm that two items must keep, or none. It is the same both ways round. It takes no memory.
+    pub fn need(&self, a: ItemView<'_>, b: ItemView<'_>) -> Option<u32>
+        ensures { result ≡ need_of self.now.parts (item_seen a.entry) (item_seen b.entry) }
+    {
+        let net = net_of(a);
+        let other = net_of(b);
+        if is_same_net(net, other) || (is_fixed(a) && is_fixed(b)) {
+            return None;
+        }
+        self.gap(role_of(a), net, role_of(b), other)
+    }
+}

@@ -1,0 +1,62 @@
+//! Adds of one request that are too near to each other.
+ghost use Rattle.std.specs.Prelude.{◌≡◌, ◌≤◌, ◌+◌, length};
+ghost use Rattle.std.specs.List.{AllByRecursion};
+ghost use Rattle.board_items.specs.Adds.{item_of_add, item_seen, layer_of_add};
+ghost use Rattle.board_rules.specs.Designs.{IsSound, IsFitItem};
+ghost use Rattle.board_rules.specs.Reasons.{IsNearReason, IsOwnReason};
+ghost use Rattle.board_rules.specs.FitAdds.{IsFitAdd};
+
+use crate::design::Design;
+use board_items::{Add, ItemView, Why, view_add};
+use seg_geometry::Steps;
+use std::sync::ledger::Ledger;
+
+// The item that an add makes.
+fn item_made(add: &Add) -> ItemView<'_>
+    requires { layer_of_add add.now ≤ 255 }
+    ensures { item_seen result ≡ item_of_add add.now }
+{
+    view_add(add).unwrap()
+}
+
+impl Design {
+    // The first of the adds behind add `a` that is too near to its item. The first of those has the number `a` + 1.
+    fn near_why<L: Ledger>(
+        &self,
+        a: u32,
+        item: ItemView<'_>,
+        others: &[Add],
+        steps: &mut Steps<L>,
+    ) -> Option<Why>
+        requires design { IsSound self.now.parts }
+        requires fits { IsFitItem self.now.parts (item_seen item) }
+        requires others_fit { AllByRecursion (IsFitAdd self.now.parts) others.now }
+        requires few { a + length others.now ≤ 64 }
+        ensures { IsNearReason self.now.parts a (item_seen item.entry) (a + 1) others.now result }
+    {
+        let mut b = a + 1;
+        for other in others {
+            if !self.pair_keeps(item, item_made(other), steps) {
+                return Some(Why::Own { a, b });
+            }
+            b += 1;
+        }
+        None
+    }
+
+    // The least pair of adds that are too near.
+    pub(crate) fn own_why<L: Ledger>(&self, adds: &[Add], steps: &mut Steps<L>) -> Option<Why>
+        requires design { IsSound self.now.parts }
+        requires fits { AllByRecursion (IsFitAdd self.now.parts) adds.now }
+        requires few { length adds.now ≤ 64 }
+        ensures { IsOwnReason self.now.parts 1 adds.now result }
+    {
+        for i in 0..adds.len() {
+            let item = item_made(&adds[i]);
+            if let Some(why) = self.near_why(i as u32 + 1, item, &adds[i + 1..], steps) {
+                return Some(why);
+            }
+        }
+        None
+    }
+}

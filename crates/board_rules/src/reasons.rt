@@ -1,0 +1,77 @@
+//! The first reason against a request that doesn't depend on the board.
+ghost use Rattle.std.specs.Prelude.{◌≡◌, ◌↔◌, [], ℕ, IsTrue, IfNone};
+ghost use Rattle.std.specs.List.{AllByRecursion};
+ghost use Rattle.board_items.specs.Formed.{IsFormed, IsFormedEdit};
+ghost use Rattle.board_rules.specs.Designs.{IsSound};
+ghost use Rattle.board_rules.specs.Reasons.{IsStaticReason};
+ghost use Rattle.board_rules.specs.FitAdds.{IsFitAdd, HasFitAdds};
+
+use crate::design::Design;
+use board_items::{Add, Request, Why};
+use seg_geometry::Steps;
+use std::sync::ledger::Ledger;
+
+// Whether there is no delete and no add.
+fn is_empty(deletes: &[u32], adds: &[Add]) -> bool
+    ensures { IsTrue result ↔ (deletes.now ≡ []) × (adds.now ≡ []) }
+{
+    deletes.is_empty() && adds.is_empty()
+}
+
+impl Design {
+    // The first reason against an edit.
+    fn edit_why<L: Ledger>(
+        &self,
+        deletes: &[u32],
+        adds: &[Add],
+        steps: &mut Steps<L>,
+    ) -> Option<Why>
+        requires design { IsSound self.now.parts }
+        requires formed { IsFormedEdit deletes.now adds.now }
+        ensures reason { (clients : ℕ) → IsStaticReason self.now.parts clients (Request.Edit deletes.now adds.now) result }
+        ensures fits { IfNone result (AllByRecursion (IsFitAdd self.now.parts) adds.now) }
+    {
+        if is_empty(deletes, adds) {
+            return Some(Why::Empty);
+        }
+        if let Some(why) = self.adds_why(adds, steps) {
+            return Some(why);
+        }
+        self.own_why(adds, steps)
+    }
+
+    /// The first reason against a request that doesn't depend on the board, or none: of an edit that it is empty,
+    /// that an add by itself is at fault, or that two of its adds are too near; of a boundary its area, its layers
+    /// and its clients, of which there are `clients`. It takes no memory.
+    pub fn static_why<L: Ledger>(
+        &self,
+        request: &Request,
+        clients: u8,
+        steps: &mut Steps<L>,
+    ) -> Option<Why>
+        requires design { IsSound self.now.parts }
+        requires formed { IsFormed request.now }
+        ensures reason { IsStaticReason self.now.parts clients request.now result }
+        ensures fits { IfNone result (HasFitAdds self.now.parts request.now) }
+    {
+        match request {
+            Request::Edit { deletes, adds } => {
+                self.edit_why(deletes.as_slice(), adds.as_slice(), steps)
+            }
+            Request::Fence {
+                layers,
+                area,
+                clients: entitled,
+            } => self.fence_why(
+                layers.as_slice(),
+                area.as_slice(),
+                entitled.as_slice(),
+                clients,
+            ),
+            Request::Reserve { .. } => None,
+            Request::Release { .. } => None,
+            Request::Unfence { .. } => None,
+            Request::Entitle { .. } => None,
+        }
+    }
+}

@@ -1,0 +1,242 @@
+//! A design for tests.
+ghost use Rattle.std.specs.Prelude.{◌≡◌, ◌≤◌, ◌<◌, ◌^◌, length, IfOk};
+ghost use Rattle.std.specs.List.{AllByRecursion};
+ghost use Rattle.seg_geometry.specs.Points.{IsInRange};
+ghost use Rattle.board_rules.specs.Designs.{IsSound, IsFitClass, IsFitShape};
+
+use crate::{
+    Areas, ClassRow, ClassRows, Design, Kind, Names, NetRow, NetRows, Parts, Stated, StatedRows,
+    What,
+};
+use area_geometry::{Core, Shape, Shapes};
+use board_items::{Item, Items, KeepKind, Padstack, Stacks};
+use row_lists::Row;
+use seg_geometry::{Ids, Points, Pt};
+use std::alloc::{AllocError, Global};
+
+pub(crate) fn pt(x: i64, y: i64) -> Pt
+    ensures x { result.x ≡ x }
+    ensures y { result.y ≡ y }
+{
+    Pt { x, y }
+}
+
+fn spot(alloc: Global, layer: u8) -> Result<Shape, AllocError>
+    ensures { layer < 2 → IfOk result (IsFitShape 2) }
+{
+    Ok(Shape {
+        layer,
+        core: Core::Chain(Points::from_slice(alloc, &[pt(0, 0)])?),
+        width: 600_000,
+    })
+}
+
+// Spots on these layers.
+pub(crate) fn spots(alloc: Global, layers: &[u8]) -> Result<Shapes, AllocError> {
+    let mut shapes = Shapes::new(alloc);
+    for layer in layers {
+        shapes.push(spot(alloc, *layer)?)?;
+    }
+    Ok(shapes)
+}
+
+fn class(alloc: Global, name: &[u8], stated: &[Stated]) -> Result<ClassRow, AllocError>
+    ensures { AllByRecursion (λ s. s.value ≤ 100000000) stated.now → IfOk result (IsFitClass 1) }
+{
+    Ok(ClassRow {
+        name: Row::from_slice(alloc, name)?,
+        width: Some(100_000),
+        vias: Some(Ids::from_slice(alloc, &[0])?),
+        clearances: StatedRows::from_slice(alloc, stated)?,
+    })
+}
+
+fn net(alloc: Global, class: u32) -> Result<NetRow, AllocError>
+    ensures { IfOk result (λ row. row.class ≡ class) }
+{
+    let name = Row::from_slice(alloc, b"net".as_slice())?;
+    Ok(NetRow { name, class })
+}
+
+fn two_layers(alloc: Global) -> Result<Names, AllocError>
+    ensures { IfOk result (λ all. length all ≡ 2) }
+{
+    let mut names = Names::new(alloc);
+    names.push(Row::from_slice(alloc, b"F.Cu".as_slice())?)?;
+    names.push(Row::from_slice(alloc, b"B.Cu".as_slice())?)?;
+    Ok(names)
+}
+
+fn two_nets(alloc: Global) -> Result<NetRows, AllocError>
+    ensures count { IfOk result (λ all. length all ≡ 2) }
+    ensures fit { IfOk result (AllByRecursion (λ row. row.class < 1)) }
+{
+    let mut nets = NetRows::new(alloc);
+    nets.push(net(alloc, 0)?)?;
+    nets.push(net(alloc, 0)?)?;
+    Ok(nets)
+}
+
+fn one_class(alloc: Global) -> Result<ClassRows, AllocError>
+    ensures count { IfOk result (λ all. length all ≡ 1) }
+    ensures fit { IfOk result (AllByRecursion (IsFitClass 1)) }
+{
+    let what = What::Pair {
+        a: Kind::Wire,
+        b: Kind::Via,
+    };
+    let stated = [Stated {
+        what,
+        value: 25_000,
+    }];
+    let mut classes = ClassRows::new(alloc);
+    classes.push(class(alloc, b"".as_slice(), &stated)?)?;
+    Ok(classes)
+}
+
+fn two_spots(alloc: Global) -> Result<Shapes, AllocError>
+    ensures count { IfOk result (λ all. length all ≡ 2) }
+    ensures fit { IfOk result (AllByRecursion (IsFitShape 2)) }
+{
+    let mut shapes = Shapes::new(alloc);
+    shapes.push(spot(alloc, 1)?)?;
+    shapes.push(spot(alloc, 0)?)?;
+    Ok(shapes)
+}
+
+fn one_stack(alloc: Global) -> Result<Stacks, AllocError>
+    ensures count { IfOk result (λ all. length all ≡ 1) }
+    ensures few { IfOk result (AllByRecursion (λ s. length s.shapes < 2 ^ 32)) }
+    ensures fit { IfOk result (AllByRecursion (λ s. AllByRecursion (IsFitShape 2) s.shapes)) }
+{
+    let name = Row::from_slice(alloc, b"via".as_slice())?;
+    let shapes = two_spots(alloc)?;
+    let mut stacks = Stacks::new(alloc);
+    stacks.push(Padstack { name, shapes })?;
+    Ok(stacks)
+}
+
+fn one_area(alloc: Global) -> Result<Areas, AllocError>
+    ensures count { IfOk result (λ all. length all ≡ 1) }
+    ensures fit { IfOk result (AllByRecursion (AllByRecursion IsInRange)) }
+{
+    let mut areas = Areas::new(alloc);
+    areas.push(Points::from_slice(alloc, &[pt(0, 0), pt(9, 0), pt(0, 9)])?)?;
+    Ok(areas)
+}
+
+// The parts of a design of two layers, two nets and a padstack, whose structure states 25,000 nm for a wire and a via.
+pub(crate) fn sound_parts(alloc: Global) -> Result<Parts, AllocError>
+    ensures sound { IfOk result IsSound }
+    ensures layers { IfOk result (λ p. length p.layers ≡ 2) }
+    ensures nets { IfOk result (λ p. length p.nets ≡ 2) }
+{
+    Ok(Parts {
+        name: Row::from_slice(alloc, b"s.dsn".as_slice())?,
+        layers: two_layers(alloc)?,
+        stacks: one_stack(alloc)?,
+        nets: two_nets(alloc)?,
+        classes: one_class(alloc)?,
+        outline: one_area(alloc)?,
+        items: Items::new(alloc),
+    })
+}
+
+fn untyped(value: u32) -> Stated {
+    Stated {
+        what: What::Untyped,
+        value,
+    }
+}
+
+fn smd(value: u32) -> Stated {
+    Stated {
+        what: What::DefaultSmd,
+        value,
+    }
+}
+
+fn pair(a: Kind, b: Kind, value: u32) -> Stated {
+    Stated {
+        what: What::Pair { a, b },
+        value,
+    }
+}
+
+fn classes(alloc: Global) -> Result<ClassRows, AllocError> {
+    let structure = [
+        untyped(200_000),
+        smd(150_000),
+        pair(Kind::Via, Kind::Wire, 90_000),
+    ];
+    let fine = [
+        pair(Kind::Wire, Kind::Smd, 50_000),
+        pair(Kind::Smd, Kind::Wire, 60_000),
+        untyped(100_000),
+    ];
+    let mut rows = ClassRows::new(alloc);
+    rows.push(class(alloc, b"", &structure)?)?;
+    rows.push(class(alloc, b"fine", &fine)?)?;
+    rows.push(class(alloc, b"bare", &[])?)?;
+    rows.push(class(alloc, b"small", &[smd(70_000)])?)?;
+    rows.push(class(alloc, b"none", &[untyped(0)])?)?;
+    Ok(rows)
+}
+
+// A net of each class of these numbers.
+fn nets(alloc: Global, classes: &[u32]) -> Result<NetRows, AllocError> {
+    let mut rows = NetRows::new(alloc);
+    for class in classes {
+        rows.push(net(alloc, *class)?)?;
+    }
+    Ok(rows)
+}
+
+fn items(alloc: Global) -> Result<Items, AllocError> {
+    let mut items = Items::new(alloc);
+    items.push(Item::Wire {
+        net: 1,
+        layer: 0,
+        width: 250_000,
+        points: Points::from_slice(alloc, &[pt(0, 0), pt(5, 6)])?,
+        fix: true,
+    })?;
+    items.push(Item::Via {
+        net: 2,
+        padstack: 0,
+        at: pt(7, -8),
+        fix: false,
+    })?;
+    items.push(Item::Pad {
+        net: Some(3),
+        shapes: spots(alloc, &[0, 1])?,
+    })?;
+    items.push(Item::Keep {
+        kind: KeepKind::Vias,
+        shapes: spots(alloc, &[1])?,
+    })?;
+    Ok(items)
+}
+
+// Nets 2k and 2k + 1 are of class k.
+pub(crate) fn full_design(alloc: Global) -> Result<Design, AllocError> {
+    let mut layers = Names::new(alloc);
+    layers.push(Row::from_slice(alloc, b"F.Cu".as_slice())?)?;
+    let mut stacks = Stacks::new(alloc);
+    stacks.push(Padstack {
+        name: Row::from_slice(alloc, b"via".as_slice())?,
+        shapes: spots(alloc, &[0, 1])?,
+    })?;
+    let mut outline = Areas::new(alloc);
+    outline.push(Points::from_slice(alloc, &[pt(0, 0), pt(9, 0), pt(0, 9)])?)?;
+    let parts = Parts {
+        name: Row::from_slice(alloc, b"s.dsn".as_slice())?,
+        layers,
+        stacks,
+        nets: nets(alloc, &[0, 0, 1, 1, 2, 2, 3, 3, 4, 4])?,
+        classes: classes(alloc)?,
+        outline,
+        items: items(alloc)?,
+    };
+    Ok(Design { parts })
+}
