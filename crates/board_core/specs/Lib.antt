@@ -1,4 +1,6 @@
-pub mod Lists
+pub mod Lives
+pub mod Finds
 pub mod Boards
+pub mod Clashes
 pub mod Answers
 pub mod Journals

@@ -1,77 +1,64 @@
 //! What a request is answered, by testing every pair.
-ghost use Rattle.std.specs.Prelude.{◌≡◌, ◌+◌, ◌<◌, ◌≤◌, ◌^◌, IfSome, IfNone, length};
+ghost use Rattle.std.specs.Prelude.{◌≡◌, ◌≤◌, IfNone, length};
 ghost use Rattle.std.specs.List.{AllByRecursion};
-ghost use Rattle.board_items.specs.Adds.{item_seen, item_of_add, layer_of_add};
-ghost use Rattle.board_rules.specs.Needs.{IsFitItem, IsFitDesign, KeepsNeed};
-ghost use Rattle.board_core.specs.Answers.{IsFirstNear, KeepsAll, IsAnswer, IsAnswerToAdds, IsFitAdd, IsFitLive, adds_of};
+ghost use Rattle.board_items.specs.Formed.{IsFormed, IsEdit};
+ghost use Rattle.board_rules.specs.Designs.{IsSound};
+ghost use Rattle.board_core.specs.Boards.{IsBoardOf};
+ghost use Rattle.board_rules.specs.FitAdds.{IsFitAdd, HasFitAdds};
+ghost use Rattle.board_core.specs.Answers.{IsAnswer, IsBoardReason};
 
-use crate::board::{Board, Live};
-use board_items::{Add, ItemId, ItemView, Request, Why, view, view_add};
+use crate::board::Board;
+use crate::clashes::clash_why;
+use crate::deletes::deletes_why;
+use board_items::{Add, Request, Why};
 use board_rules::Design;
 use seg_geometry::Steps;
 use std::sync::ledger::Ledger;
 
-// The first live item that is nearer to an item than their clearance.
-fn first_near<L: Ledger>(
-    design: &Design,
-    live: &[Live],
-    item: ItemView<'_>,
-    steps: &mut Steps<L>,
-) -> Option<ItemId>
-    requires design { IsFitDesign design.now }
-    requires live_fit { AllByRecursion IsFitLive live.now }
-    requires item_fits { IsFitItem (item_seen item) }
-    ensures some { IfSome result (IsFirstNear design.now (item_seen item.entry) live.now) }
-    ensures none { IfNone result (KeepsAll design.now live.now (item_seen item.entry)) }
-{
-    for other in live {
-        if !design.pair_keeps(item, view(&other.item), steps) {
-            return Some(other.id);
-        }
-    }
-    None
-}
-
-// What adds are answered on a board.
-fn answer_to_adds<L: Ledger>(
+// What an edit that is right by itself is answered on a board.
+fn board_why<L: Ledger>(
     design: &Design,
     board: &Board,
+    deletes: &[u32],
     adds: &[Add],
     steps: &mut Steps<L>,
 ) -> Option<Why>
-    requires design { IsFitDesign design.now }
-    requires live_fit { AllByRecursion IsFitLive board.now.live }
-    requires adds_fit { AllByRecursion IsFitAdd adds.now }
-    requires few { length adds.now < 2 ^ 32 }
-    ensures { IsAnswerToAdds design.now board.now adds.now result }
+    requires design { IsSound design.now.parts }
+    requires board { IsBoardOf design.now.parts board.now }
+    requires few { length adds.now ≤ 64 }
+    requires fit { AllByRecursion (IsFitAdd design.now.parts) adds.now }
+    ensures { IsBoardReason design.now.parts board.now.live deletes.now adds.now result }
 {
-    for (i, add) in adds.iter().enumerate() {
-        let item = view_add(add)?;
-        if let Some(id) = first_near(design, board.live(), item, steps) {
-            let add = i as u32 + 1;
-            return Some(Why::Clash { add, id });
-        }
+    if let Some(why) = deletes_why(board.lives(), deletes) {
+        return Some(why);
     }
-    None
+    clash_why(design, deletes, board.lives(), adds, steps)
 }
 
-/// What a request of a client is answered on a board: the first reason against it, or none, by
+/// What an edit of a client is answered on a board, for so many clients: the first reason against it, or none, by
 /// testing every pair. It takes no memory.
 pub fn slow_answer<L: Ledger>(
     design: &Design,
     board: &Board,
-    _clients: u8,
+    clients: u8,
     _client: u8,
     request: &Request,
     steps: &mut Steps<L>,
 ) -> Option<Why>
-    requires design { IsFitDesign design.now }
-    requires live_fit { AllByRecursion IsFitLive board.now.live }
-    requires adds_fit { AllByRecursion IsFitAdd (adds_of request.now) }
-    requires few { length (adds_of request.now) < 2 ^ 32 }
-    ensures { IsAnswer design.now board.now request.now result }
+    requires design { IsSound design.now.parts }
+    requires board { IsBoardOf design.now.parts board.now }
+    requires formed { IsFormed request.now }
+    requires edit { IsEdit request.now }
+    ensures answer { IsAnswer design.now.parts board.now clients request.now result }
+    ensures fits { IfNone result (HasFitAdds design.now.parts request.now) }
 {
+    if let Some(why) = design.static_why(request, clients, steps) {
+        return Some(why);
+    }
     match request {
-        Request::Edit { adds, .. } => answer_to_adds(design, board, adds.as_slice(), steps),
+        Request::Edit { deletes, adds } => {
+            board_why(design, board, deletes.as_slice(), adds.as_slice(), steps)
+        }
+        _ => None,
     }
 }

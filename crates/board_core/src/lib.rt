@@ -3,9 +3,11 @@
 
 mod answer;
 mod board;
+mod clashes;
+mod deletes;
+mod find;
+mod live;
 
 pub use answer::slow_answer;
-pub use board::{Board, Live};
-
-#[cfg(test)]
-mod tests;
+pub use board::Board;
+pub use live::{Live, Lives};

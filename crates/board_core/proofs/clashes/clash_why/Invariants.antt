@@ -1,0 +1,15 @@
+use Rattle.std.proofs.Common.{◌+◌, drop}
+use Rattle.std.specs.Prelude.{Option}
+use Rattle.std.specs.List.{AllByRecursion}
+use Rattle.board_items.specs.declared.history.Why.{Why}
+use Rattle.board_core.specs.Lives.{without}
+use Rattle.board_rules.specs.FitAdds.{IsFitAdd}
+use Rattle.board_core.specs.Answers.{IsClashReason}
+use Rattle.board_core.proofs.clashes.clash_why.Given as goal
+
+-- What the adds that are left give is what all give.
+abbrev pub invariant-loop-i : goal.invariant-loop-i
+invariant-loop-i g l = record {
+  fit : AllByRecursion (IsFitAdd l.design.parts) (drop l.i l.adds);
+  same : (w : Option Why) → IsClashReason l.design.parts (without l.deletes l.live) (l.i + 1) (drop l.i l.adds) w → IsClashReason l.design.parts (without l.deletes l.live) 1 l.adds w;
+}
