@@ -1,5 +1,5 @@
 -- The text of a step has no line feed.
-use Rattle.std.proofs.Common.{◌≡◌, ◌≢◌, ℕ, suc, ◌^◌, ◌<◌, ◌≤◌, false, eqb, List, [], ◌∷◌, ◌++◌, length, get_or, refl, ap, ◌∙◌, arith}
+use Rattle.std.proofs.Common.{◌≡◌, ◌≢◌, ℕ, suc, ◌^◌, ◌<◌, ◌≤◌, false, eqb, List, [], ◌∷◌, ◌++◌, length, get_or, refl, arith}
 use Rattle.std.specs.Prelude.{codes, decimal, ℤ, unsigned_abs}
 use Rattle.std.proofs.Math.IntN.{pos, negsuc}
 use Rattle.std.specs.Fmt.{signed_decimal}
@@ -10,13 +10,15 @@ use Rattle.seg_geometry.specs.Points.{IsInRange}
 use Rattle.seg_geometry.specs.declared.points.Pt.{Pt}
 use Rattle.board_items.specs.declared.requests.Add.{Add}
 use Rattle.board_items.specs.declared.requests.Add.TheVariants as adds
-use Rattle.board_items.specs.Formed.{IsFormedAdd}
+use Rattle.board_items.specs.declared.requests.Request.TheVariants as requests
+use Rattle.board_items.specs.Formed.{IsFormedAdd, IsFormedEdit}
 use Rattle.session_wire.specs.declared.steps.ScriptStep.{ScriptStep}
-use Rattle.session_wire.specs.Lines.{point_text, step_text}
-use Rattle.session_wire.specs.Parts.{wire_text, front_then}
+use Rattle.session_wire.specs.declared.steps.ScriptStep.TheVariants as steps
+use Rattle.session_wire.specs.Lines.{step_text}
+use Rattle.session_wire.specs.Requests.{number_text, point_text, next_add_text, edit_text}
+use Rattle.session_wire.specs.Parts.{IsId}
 use Rattle.session_wire.specs.Steps.{IsStep, IsLine}
 use Rattle.session_wire.proofs.Digits.{own, decimal_digits}
-use Rattle.session_wire.proofs.StepTexts.{step_is, text_of_step}
 
 line_by_index : (xs : List ℕ) → ((i : ℕ) → i < length xs → get_or xs i 0 ≢ 10) → IsLine xs
 line_by_index [] h = tt
@@ -35,61 +37,64 @@ decimal_line n low = line_by_index (decimal n) (not_in_digits own (decimal n) 10
 spaced : (xs : List ℕ) → IsLine xs → IsLine (32 ∷ xs)
 spaced xs p = (not_ten 32 refl, p)
 
+number_line : (n : ℕ) → n < 2 ^ 32 → IsLine (number_text n)
+number_line n low = spaced (decimal n) (decimal_line n low)
+
 signed_line : (z : ℤ) → unsigned_abs z ≤ 1000000000 → IsLine (signed_decimal z)
 signed_line (pos n) low = decimal_line n (omega arith)
 signed_line (negsuc n) low = (not_ten 45 refl, decimal_line (suc n) (omega arith))
 
-points_line : (ps : List Pt) → AllByRecursion IsInRange ps → IsLine (flat_map point_text ps)
-points_line [] f = tt
-points_line (p ∷ ps) f =
-    line_append (point_text p) (flat_map point_text ps)
-    (spaced _ (line_append (signed_decimal p.x) (32 ∷ signed_decimal p.y) (signed_line p.x f.0.x) (spaced _ (signed_line p.y f.0.y))))
-    (points_line ps f.1)
+point_line : (p : Pt) → IsInRange p → IsLine (point_text p)
+point_line p f = spaced (signed_decimal p.x ++ (32 ∷ signed_decimal p.y)) (line_append (signed_decimal p.x) (32 ∷ signed_decimal p.y) (signed_line p.x f.x) (spaced (signed_decimal p.y) (signed_line p.y f.y)))
 
-wire_line : (add : Add) → IsFormedAdd add → IsLine (wire_text add)
-wire_line (adds.Wire net layer width points) f =
-    let last = line_append (decimal (length points)) (flat_map point_text points) (decimal_line (length points) (omega (arith, f.points_fit))) (points_line points f.in_range) in
-    let third = line_append (decimal width) _ (decimal_line width (omega (arith, f.width_fits))) (spaced _ last) in
-    let second = line_append (decimal layer) _ (decimal_line layer f.layer_fits) (spaced _ third) in
-    line_append (decimal net) _ (decimal_line net f.net_fits) (spaced _ second)
+-- where each thing's text is a line, so are all of them
+all_line : {T : Type 0} (P : T → Type 0) (text : T → List ℕ) (xs : List T) → ((x : T) → P x → IsLine (text x)) → AllByRecursion P xs → IsLine (flat_map text xs)
+all_line P text [] h f = tt
+all_line P text (x ∷ xs) h f = line_append (text x) (flat_map text xs) (h x f.0) (all_line P text xs h f.1)
 
-do_line : IsLine (codes "do ")
-do_line = (not_ten 100 refl, (not_ten 111 refl, (not_ten 32 refl, tt)))
+wire_word : IsLine (codes " wire")
+wire_word = (not_ten 32 refl, (not_ten 119 refl, (not_ten 105 refl, (not_ten 114 refl, (not_ten 101 refl, tt)))))
 
-edit_line : IsLine (codes " edit 0 1 wire ")
-edit_line = (
-  not_ten 32 refl,
-  (
-    not_ten 101 refl,
-    (
-      not_ten 100 refl,
-      (
-        not_ten 105 refl,
-        (
-          not_ten 116 refl,
-          (
-            not_ten 32 refl,
-            (
-              not_ten 48 refl,
-              (
-                not_ten 32 refl,
-                (not_ten 49 refl, (not_ten 32 refl, (not_ten 119 refl, (not_ten 105 refl, (not_ten 114 refl, (not_ten 101 refl, (not_ten 32 refl, tt))))))),
-              ),
-            ),
-          ),
-        ),
-      ),
-    ),
-  ),
-)
+via_word : IsLine (codes " via")
+via_word = (not_ten 32 refl, (not_ten 118 refl, (not_ten 105 refl, (not_ten 97 refl, tt))))
 
-front_line : (client : ℕ) (rest : List ℕ) → client ≤ 8 → IsLine rest → IsLine (front_then client rest)
-front_line client rest low p =
-    line_append (codes "do ") (decimal client ++ (codes " edit 0 1 wire " ++ rest)) do_line
-    (line_append (decimal client) (codes " edit 0 1 wire " ++ rest) (decimal_line client (omega arith)) (line_append (codes " edit 0 1 wire ") rest edit_line p))
+edit_word : IsLine (codes "edit")
+edit_word = (not_ten 101 refl, (not_ten 100 refl, (not_ten 105 refl, (not_ten 116 refl, tt))))
+
+do_word : IsLine (codes "do")
+do_word = (not_ten 100 refl, (not_ten 111 refl, tt))
+
+add_line : (add : Add) → IsFormedAdd add → IsLine (next_add_text add)
+add_line (adds.Wire net layer width ps) f =
+    let counted = number_text (length ps) ++ flat_map point_text ps in
+    let from_width = number_text width ++ counted in
+    let from_layer = number_text layer ++ from_width in
+    let last = line_append (number_text (length ps)) (flat_map point_text ps) (number_line (length ps) (omega (arith, f.points_fit))) (all_line IsInRange point_text ps point_line f.in_range) in
+    let third = line_append (number_text width) counted (number_line width (omega (arith, f.width_fits))) last in
+    let second = line_append (number_text layer) from_width (number_line layer f.layer_fits) third in
+    let first = line_append (number_text net) from_layer (number_line net f.net_fits) second in
+    line_append (codes " wire") (number_text net ++ from_layer) wire_word first
+add_line (adds.Via net padstack place) f =
+    let from_padstack = number_text padstack ++ point_text place in
+    let second = line_append (number_text padstack) (point_text place) (number_line padstack f.padstack_fits) (point_line place f.in_range) in
+    let first = line_append (number_text net) from_padstack (number_line net f.net_fits) second in
+    line_append (codes " via") (number_text net ++ from_padstack) via_word first
+
+edit_line : (ds : List ℕ) (more : List Add) → IsFormedEdit ds more → IsLine (edit_text ds more)
+edit_line ds more f =
+    let from_adds = number_text (length more) ++ flat_map next_add_text more in
+    let from_deletes = flat_map number_text ds ++ from_adds in
+    let fourth = all_line IsFormedAdd next_add_text more add_line f.formed in
+    let third = line_append (number_text (length more)) (flat_map next_add_text more) (number_line (length more) (omega (arith, f.adds_fit))) fourth in
+    let second = line_append (flat_map number_text ds) from_adds (all_line IsId number_text ds number_line f.numbers_fit) third in
+    let first = line_append (number_text (length ds)) from_deletes (number_line (length ds) (omega (arith, f.deletes_fit))) second in
+    line_append (codes "edit") (number_text (length ds) ++ from_deletes) edit_word first
 
 pub step_is_one_line : (step : ScriptStep) → IsStep step → IsLine (step_text step)
-step_is_one_line step f =
-    let (client, add, a) = step_is step f in
-    let same : step_text step ≡ front_then client (wire_text add) = ap step_text a.is ∙ text_of_step client add in
-    rw same (front_line client (wire_text add) a.high (wire_line add a.formed))
+step_is_one_line (steps.Do client (requests.Edit ds more)) f =
+    line_append (codes "do") (number_text client ++ (32 ∷ edit_text ds more)) do_word (line_append (number_text client) (32 ∷ edit_text ds more) (number_line client (omega (arith, f.1))) (spaced (edit_text ds more) (edit_line ds more f.2)))
+step_is_one_line (steps.Do client (requests.Reserve id)) f = absurd f.3
+step_is_one_line (steps.Do client (requests.Release id)) f = absurd f.3
+step_is_one_line (steps.Do client (requests.Fence layers area clients)) f = absurd f.3
+step_is_one_line (steps.Do client (requests.Unfence fence)) f = absurd f.3
+step_is_one_line (steps.Do client (requests.Entitle fence other)) f = absurd f.3

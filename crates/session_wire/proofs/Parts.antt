@@ -1,6 +1,6 @@
 -- Where a number ends, and what follows it.
 use Rattle.std.proofs.Common.{◌≡◌, ◌≢◌, ℕ, suc, ◌^◌, ◌<◌, ◌≤◌, List, [], ◌∷◌, ◌++◌, length, Option, Some, None, Result, Ok, Err, refl, sym, ap, ◌∙◌, arith}
-use Rattle.std.specs.Prelude.{IfNone, MatchResult, ℤ, unsigned_abs}
+use Rattle.std.specs.Prelude.{IfNone, IfOk, MatchResult, ℤ, unsigned_abs}
 use Rattle.std.proofs.Math.IntN.{pos, negsuc}
 use Rattle.std.specs.Fmt.{decimal, signed_decimal}
 use Rattle.std.specs.Result.{result_ok}
@@ -13,6 +13,11 @@ use Rattle.session_wire.proofs.Digits.{decimal_digits}
 pub none_then : {X P Q : Type 0} (r : Option X) → IfNone r P → (P → Q) → IfNone r Q
 none_then None p f = f p
 none_then (Some x) p f = tt
+
+pub ok_none_then : {X E P Q : Type 0} (r : Result (Option X) E) → IfOk r (λ o. IfNone o P) → (P → Q) → IfOk r (λ o. IfNone o Q)
+ok_none_then (Ok None) p f = f p
+ok_none_then (Ok (Some x)) p f = tt
+ok_none_then (Err e) p f = tt
 
 -- what an `Err` says, where `ok` gave nothing
 pub err_says : {T E N : Type 0} (P : T → Type 0) (Q : E → Type 0) (r : Result T E) → result_ok r ≡ None → MatchResult r P Q → ((e : E) → Q e → N) → N

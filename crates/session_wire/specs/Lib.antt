@@ -1,3 +1,5 @@
 pub mod Lines
 pub mod Parts
+pub mod Replies
+pub mod Requests
 pub mod Steps

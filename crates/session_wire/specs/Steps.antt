@@ -1,20 +1,14 @@
 -- Which steps a script may have, and which bytes spell one.
-use Rattle.std.specs.Prelude.{ℕ, ◌≡◌, ◌≢◌, ◌≤◌, List, [], length}
+use Rattle.std.specs.Prelude.{ℕ, ◌≡◌, ◌≢◌, ◌≤◌, List}
 use Rattle.std.specs.List.{AllByRecursion}
-use Rattle.board_items.specs.declared.requests.Request.{Request}
-use Rattle.board_items.specs.declared.requests.Request.TheVariants as requests
-use Rattle.board_items.specs.Formed.{IsFormed}
+use Rattle.board_items.specs.Formed.{IsFormed, IsEdit}
 use Rattle.session_wire.specs.declared.steps.ScriptStep.{ScriptStep}
 use Rattle.session_wire.specs.declared.steps.ScriptStep.TheVariants as steps
 use Rattle.session_wire.specs.Lines.{step_text}
 
--- one add, and nothing is deleted
-abbrev pub AddsOne : Request → Type 0
-AddsOne (requests.Edit deletes adds) = (deletes ≡ []) × (length adds ≡ 1)
-
--- one of the clients 1 to 8 asks to add one wire, whose numbers are in range
+-- one of the clients 1 to 8 asks for an edit, whose counts and numbers are in range
 abbrev pub IsStep : ScriptStep → Type 0
-IsStep (steps.Do client request) = (1 ≤ client) × (client ≤ 8) × IsFormed request × AddsOne request
+IsStep (steps.Do client request) = (1 ≤ client) × (client ≤ 8) × IsFormed request × IsEdit request
 
 -- the line spells the step
 pub record Reads (line : List ℕ) (step : ScriptStep) : Type 0 where

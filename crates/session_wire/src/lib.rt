@@ -1,8 +1,14 @@
 //! The lines of scripts and replies: how steps are read, and how entries and replies are written.
 #![tactic(auto)]
 
+mod adds;
+mod deletes;
 mod fronts;
 mod numbers;
+mod points;
+mod put_parts;
+mod put_replies;
+mod put_requests;
 mod reading;
 mod steps;
 mod writing;

@@ -1,9 +1,10 @@
 use crate::{ScriptStep, one_step, read_step, step_is_one_line, write_entry, write_reply};
-use board_items::{Act, Entry, ItemId, Reply, Why};
+use board_items::{Act, Clients, Entry, ItemId, Layers, Reply, Request, Why};
 use layout_io::Bytes;
+use seg_geometry::{Points, Pt};
 use std::test::Fail;
 
-// By hand, from the bounds on clients, widths and coordinates, and from the one spelling of numbers.
+// By hand, from the bounds on clients, counts, numbers, widths and coordinates, and from the one spelling of numbers.
 #[test]
 fn just_the_lines_of_the_form_are_read(rt: HostRuntime) -> Result<(), Fail> {
     for (line, readable) in [
@@ -33,53 +34,180 @@ fn just_the_lines_of_the_form_are_read(rt: HostRuntime) -> Result<(), Fail> {
         ("do 1 edit 0 1 wire 0 0 1 2  0 0 0 0", false),
         ("do 1  edit 0 1 wire 0 0 1 2 0 0 0 0", false),
         ("do 1 edit 0 1 wire 0 0 1 2 0 0 0 0 ", false),
-        ("do 1 edit 1 7 0", false),
+        ("do 1 edit 0 1 via 4294967295 4294967295 0 0", true),
+        ("do 1 edit 0 1 via 4294967296 0 0 0", false),
+        ("do 1 edit 0 1 via 0 4294967296 0 0", false),
+        ("do 1 edit 0 1 via 0 0 1000000000 -1000000000", true),
+        ("do 1 edit 0 1 via 0 0 1000000001 0", false),
+        ("do 1 edit 0 1 via 0 0 0 -1000000001", false),
+        ("do 1 edit 0 1 via 0 0 0 -0", false),
+        ("do 1 edit 0 1 via 0 0 0", false),
+        ("do 1 edit 0 1 via 0 0 0 0 0", false),
+        ("do 1 edit 0 1 wires 0 0 0 0", false),
+        ("do 1 edit 0 2 via 0 0 0 0", false),
+        ("do 1 edit 0 1 via 0 0 0 0 via 0 0 0 0", false),
+        ("do 1 edit 1 4294967295 0", true),
+        ("do 1 edit 1 4294967296 0", false),
+        ("do 1 edit 1 01 0", false),
+        ("do 1 edit 01 1 0", false),
+        ("do 1 edit 1  7 0", false),
+        ("do 1 edit 1 -7 0", false),
+        ("do 1 edit 2 7 0", false),
+        ("do 1 edit 1 7 8 0", false),
+        ("do 1 edit 1 7", false),
+        ("do 1 edit 0 0", true),
+        ("do 1 edit", false),
+        ("do 1 reserve 7", false),
         ("", false),
     ] {
         let step = read_step(rt.alloc(), line.as_bytes())?;
         assert_eq!(rt; step.is_some(), readable, "{line}");
     }
-    for (count, word, readable) in [
-        (256, " 256", true),
-        (257, " 257", false),
-        (255, " 256", false),
+    for (front, count, part, back, readable) in [
+        ("do 1 edit 0 1 wire 0 0 1 256", 256, " 7 -7", "", true),
+        ("do 1 edit 0 1 wire 0 0 1 257", 257, " 7 -7", "", false),
+        ("do 1 edit 0 1 wire 0 0 1 256", 255, " 7 -7", "", false),
+        ("do 1 edit 256", 256, " 7", " 0", true),
+        ("do 1 edit 257", 257, " 7", " 0", false),
+        ("do 1 edit 0 64", 64, " via 0 0 7 -7", "", true),
+        ("do 1 edit 0 65", 65, " via 0 0 7 -7", "", false),
     ] {
         let mut line = Bytes::new(rt.alloc());
-        line.append(b"do 1 edit 0 1 wire 0 0 1".as_slice())?;
-        line.append(word.as_bytes())?;
+        line.append(front.as_bytes())?;
         for _ in 0..count {
-            line.append(b" 7 -7".as_slice())?;
+            line.append(part.as_bytes())?;
         }
+        line.append(back.as_bytes())?;
         let step = read_step(rt.alloc(), line.as_slice())?;
-        assert_eq!(rt; step.is_some(), readable, "{count} points");
+        assert_eq!(rt; step.is_some(), readable, "{count} of {part}");
     }
     Ok(())
 }
 
-// By hand.
+// By hand: an entry's line has the request as the script has it.
 #[test]
 fn what_was_read_is_written_as_an_entry(rt: HostRuntime) -> Result<(), Fail> {
     step_is_one_line();
     one_step();
-    let mut out = Bytes::new(rt.alloc());
-    let line = b"do 2 edit 0 1 wire 3 1 250000 2 0 -5 1000000 0".as_slice();
-    let step = read_step(rt.alloc(), line)?;
-    if let Some(ScriptStep::Do { client, request }) = step {
+    for (line, want) in [
+        (
+            "do 2 edit 0 1 wire 3 1 250000 2 0 -5 1000000 0",
+            "entry 12 2 edit 0 1 wire 3 1 250000 2 0 -5 1000000 0\n",
+        ),
+        (
+            "do 8 edit 0 1 via 3 4 -5 6",
+            "entry 12 8 edit 0 1 via 3 4 -5 6\n",
+        ),
+        ("do 1 edit 2 7 41 0", "entry 12 1 edit 2 7 41 0\n"),
+        (
+            "do 1 edit 1 7 3 via 1 2 3 4 wire 5 6 7 2 8 9 10 11 via 1 2 3 4",
+            "entry 12 1 edit 1 7 3 via 1 2 3 4 wire 5 6 7 2 8 9 10 11 via 1 2 3 4\n",
+        ),
+        ("do 1 edit 0 0", "entry 12 1 edit 0 0\n"),
+    ] {
+        let mut out = Bytes::new(rt.alloc());
+        let step = read_step(rt.alloc(), line.as_bytes())?;
+        if let Some(ScriptStep::Do { client, request }) = step {
+            let entry = Entry {
+                number: 12,
+                client,
+                act: Act::Ask { request },
+            };
+            write_entry(&entry, &mut out)?;
+        }
+        assert_eq!(rt; out.as_slice(), want.as_bytes(), "{line}");
+    }
+    Ok(())
+}
+
+// By hand, each kind of act once.
+#[test]
+fn entries_are_spelled(rt: HostRuntime) -> Result<(), Fail> {
+    let layers = Layers::from_slice(rt.alloc(), &[0, 255])?;
+    let area = Points::from_slice(rt.alloc(), &[Pt { x: 0, y: -5 }])?;
+    let clients = Clients::from_slice(rt.alloc(), &[2])?;
+    let id = ItemId(7);
+    let fence = 3;
+    for (request, want) in [
+        (Request::Reserve { id }, "entry 1 8 reserve 7\n"),
+        (Request::Release { id }, "entry 1 8 release 7\n"),
+        (
+            Request::Fence {
+                layers,
+                area,
+                clients,
+            },
+            "entry 1 8 fence 2 0 255 1 0 -5 1 2\n",
+        ),
+        (Request::Unfence { fence }, "entry 1 8 unfence 3\n"),
+        (
+            Request::Entitle { fence, client: 4 },
+            "entry 1 8 entitle 3 4\n",
+        ),
+    ] {
+        let mut out = Bytes::new(rt.alloc());
         let entry = Entry {
-            number: 12,
-            client,
+            number: 1,
+            client: 8,
             act: Act::Ask { request },
         };
         write_entry(&entry, &mut out)?;
+        assert_eq!(rt; out.as_slice(), want.as_bytes(), "{want}");
     }
-    write_reply(&Reply::Done { number: 12 }, &mut out)?;
-    let why = Why::Clash {
-        add: 1,
-        id: ItemId(7),
+    let mut out = Bytes::new(rt.alloc());
+    let entry = Entry {
+        number: 4294967295,
+        client: 1,
+        act: Act::Leave,
     };
-    write_reply(&Reply::No { why }, &mut out)?;
+    write_entry(&entry, &mut out)?;
+    let want = b"entry 4294967295 1 leave\n".as_slice();
+    assert_eq!(rt; out.as_slice(), want, "a client that leaves");
+    Ok(())
+}
+
+// By hand, each kind of reply and reason once.
+#[test]
+fn replies_are_spelled(rt: HostRuntime) -> Result<(), Fail> {
+    let id = ItemId(7);
+    let fence = 3;
+    let add = 2;
+    let mut out = Bytes::new(rt.alloc());
+    for reply in [
+        Reply::Done { number: 12 },
+        Reply::Full,
+        Reply::Left { number: 13 },
+    ] {
+        write_reply(&reply, &mut out)?;
+    }
+    for why in [
+        Why::Empty,
+        Why::Net { add },
+        Why::Layer { add },
+        Why::Narrow { add },
+        Why::Padstack { add },
+        Why::Range { add },
+        Why::Outside { add },
+        Why::Own { a: 1, b: 2 },
+        Why::Repeated { id },
+        Why::Missing { id },
+        Why::Fixed { id },
+        Why::Reserved { id, client: 4 },
+        Why::Protected { fence },
+        Why::Clash { add, id },
+        Why::Unheld { id },
+        Why::Area,
+        Why::FenceLayer { layer: 5 },
+        Why::Client { client: 9 },
+        Why::Overlap { fence },
+        Why::Covers { id },
+        Why::NoFence { fence },
+        Why::NotOwner { fence },
+    ] {
+        write_reply(&Reply::No { why }, &mut out)?;
+    }
     let want =
-        b"entry 12 2 edit 0 1 wire 3 1 250000 2 0 -5 1000000 0\nok 12\nno clash 1 7\n".as_slice();
-    assert_eq!(rt; out.as_slice(), want, "an entry and two replies");
+        b"ok 12\nfull\nleft 13\nno empty\nno net 2\nno layer 2\nno narrow 2\nno padstack 2\nno range 2\nno outside 2\nno own 1 2\nno repeated 7\nno missing 7\nno fixed 7\nno reserved 7 4\nno protected 3\nno clash 2 7\nno unheld 7\nno area\nno fencelayer 5\nno client 9\nno overlap 3\nno covers 7\nno nofence 3\nno notowner 3\n".as_slice();
+    assert_eq!(rt; out.as_slice(), want, "every reply");
     Ok(())
 }

@@ -1,7 +1,0 @@
-use Rattle.std.proofs.Common.{◌≡◌, ◌++◌, drop}
-use Rattle.std.specs.List.{flat_map}
-use Rattle.session_wire.specs.Lines.{number_text}
-use Rattle.session_wire.proofs.writing.put_numbers.Given as goal
-
-abbrev pub invariant-loop-number : goal.invariant-loop-number
-invariant-loop-number l = l.to ++ flat_map number_text (drop l.number-index l.numbers) ≡ l.initial.to ++ flat_map number_text l.numbers
