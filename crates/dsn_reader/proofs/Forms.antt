@@ -1,157 +1,137 @@
--- The words of a design, both ways.
-use Rattle.std.proofs.Common.{◌≡◌, ℕ, ◌<◌, ◌≤◌, Bool, true, false, cond, List, [], ◌∷◌, ◌++◌, length, Option, Some, None, refl, sym, ap, subst, ◌∙◌, arith}
-use Rattle.std.specs.Prelude.{nat_lt, ◌&&◌}
-use Rattle.std.proofs.lemmas.Bool.{ltb-true, lt-ltb}
+-- The words of a whole design, both ways.
+use Rattle.std.proofs.Common.{◌≡◌, ℕ, Bool, true, cond, List, [], ◌∷◌, ◌++◌, Option, Some, None, refl, sym, ap, subst, ◌∙◌, append_assoc}
 use Rattle.std.specs.List.{flat_map}
-use Rattle.dsn_reader.specs.declared.keyword.Keyword.{Keyword}
+use Rattle.dsn_reader.specs.declared.form.Stack.{Stack}
+use Rattle.dsn_reader.specs.declared.form.Structure.{Structure}
+use Rattle.dsn_reader.specs.declared.form.Form.{Form}
 use Rattle.dsn_reader.specs.declared.keyword.Keyword.TheVariants as key
-use Rattle.dsn_reader.specs.Form.{spelled, front_words, rule_words, form_words, net_words, IsName, Parts, HasForm}
-use Rattle.dsn_reader.specs.Reading.{◌>>=◌, strip, name_of, front_of, rule_of, nets_of, is_end, is_closed, closed, form_of}
-use Rattle.dsn_reader.proofs.Strips.{some_is, bind_some, strip_found, strip_again, named_found, named_again}
-use Rattle.dsn_reader.proofs.NetLists.{nets_found, nets_again, net_none}
+use Rattle.dsn_reader.specs.Lists.{front_words, layer_words, via_words, rule_words, library_words, network_words, structure_words, form_words}
+use Rattle.dsn_reader.specs.Form.{IsStructure, HasForm}
+use Rattle.dsn_reader.specs.Reading.{◌>>=◌, strip, between}
+use Rattle.dsn_reader.specs.FormReading.{front_of, layer_of, rule_of, vias_of, library_of, layers_of, nets_of, is_end, is_closed, structure_of, form_of}
+use Rattle.dsn_reader.proofs.Strips.{some_is, bind_some, strip_found, strip_again, between_found, between_again, Two, pair_found, pair_again}
+use Rattle.dsn_reader.proofs.Listed.{closing, cond_some}
+use Rattle.dsn_reader.proofs.ListForms.{vias_found, vias_again, library_found, library_again, nets_found, nets_again, layers_found, layers_again}
 
-abbrev opening : List Keyword
-opening = key.Left ∷ key.Pcb ∷ []
+abbrev Names : Type 0
+Names = List (List ℕ)
 
-abbrev to_layer : List Keyword
-to_layer = key.Left ∷ key.Unit ∷ key.Micrometre ∷ key.Right ∷ key.Left ∷ key.Structure ∷ key.Left ∷ key.Layer ∷ []
+abbrev structure_last : Names → Names → Two → Option (Structure × Names)
+structure_last ls vs r = Some (record { layers = ls; vias = vs; width = r.0; clearance = r.1 }, r.2)
 
-abbrev to_width : List Keyword
-to_width = key.Left ∷ key.Kind ∷ key.Signal ∷ key.Right ∷ key.Right ∷ key.Left ∷ key.Rule ∷ key.Left ∷ key.Width ∷ []
+abbrev behind_vias : Names → Names × Names → Option (Structure × Names)
+behind_vias ls v = rule_of v.1 >>= structure_last ls v.0
 
-abbrev to_clearance : List Keyword
-to_clearance = key.Right ∷ key.Left ∷ key.Clearance ∷ []
+abbrev behind_layers : Names × Names → Option (Structure × Names)
+behind_layers l = vias_of l.1 >>= behind_vias l.0
 
-abbrev to_nets : List Keyword
-to_nets = key.Right ∷ key.Right ∷ key.Right ∷ key.Left ∷ key.Network ∷ []
+joined_three : (a b c d : Names) → (a ++ (b ++ c)) ++ d ≡ a ++ (b ++ (c ++ d))
+joined_three a b c d = append_assoc a (b ++ c) d ∙ ap (λ (z : Names). a ++ z) (append_assoc b c d)
 
-abbrev closing : List Keyword
-closing = key.Right ∷ key.Right ∷ []
+structure_found : (ws : Names) (x : Structure × Names) → structure_of ws ≡ Some x → (ws ≡ structure_words x.0 ++ x.1) × IsStructure x.0
+unfolding structure_of
+structure_found ws x e =
+    let l = bind_some (layers_of ws) behind_layers x e in
+    let ll = layers_found ws l.0 l.1 in
+    let v = bind_some (vias_of l.0.1) (behind_vias l.0.0) x l.2 in
+    let vv = vias_found l.0.1 v.0 v.1 in
+    let r = bind_some (rule_of v.0.1) (structure_last l.0.0 v.0.0) x v.2 in
+    let rr = pair_found _ _ _ v.0.1 r.0 r.1 in
+    let front = flat_map layer_words l.0.0 in
+    let middle = via_words v.0.0 in
+    let last = rule_words r.0.0 r.0.1 in
+    let words : ws ≡ front ++ (middle ++ (last ++ r.0.2)) = ll.words_are ∙ ap (λ (z : Names). front ++ z) (vv.words_are ∙ ap (λ (z : Names). middle ++ z) rr.0) in
+    subst (λ (y : Structure × Names). (ws ≡ structure_words y.0 ++ y.1) × IsStructure y.0) (some_is _ _ r.2) (
+      words ∙ sym (joined_three front middle last r.0.2),
+      record { layers = ll.formed; some = ll.some; most = ll.most; vias = vv.formed; most_vias = vv.most; width = rr.1; clearance = rr.2 },
+    )
 
--- two words and what follows them
-abbrev Two : Type 0
-Two = List ℕ × List ℕ × List (List ℕ)
+no_layer : (vs : Names) (w c : List ℕ) (r : Names) → layer_of (via_words vs ++ (rule_words w c ++ r)) ≡ None
+unfolding between strip
+no_layer [] w c r = refl
+no_layer (v ∷ vs) w c r = refl
 
-abbrev front_last : List ℕ → List ℕ × List (List ℕ) → Option Two
-front_last n l = Some (n, l.0, l.1)
+no_via : (w c : List ℕ) (r : Names) → strip (key.Left ∷ key.Via ∷ []) (rule_words w c ++ r) ≡ None
+unfolding strip
+no_via w c r = refl
 
-abbrev front_more : List ℕ × List (List ℕ) → Option Two
-front_more n = strip to_layer n.1 >>= λ b. name_of b >>= λ l. Some (n.0, l.0, l.1)
+no_library : (ns r : Names) → strip (key.Left ∷ key.Library ∷ []) (network_words ns ++ r) ≡ None
+unfolding strip
+no_library ns r = refl
 
-front_found : (ws : List (List ℕ)) (x : Two) → front_of ws ≡ Some x → (ws ≡ front_words x.0 x.1 ++ x.2) × IsName x.0 × IsName x.1
-unfolding front_of
-front_found ws x e =
-    let s = named_found opening ws front_more x e in
-    let t = named_found to_layer s.0.1 (front_last s.0.0) x s.3 in
-    let same : (s.0.0, t.0.0, t.0.1) ≡ x = some_is _ _ t.3 in
-    let words : ws ≡ front_words s.0.0 t.0.0 ++ t.0.1 = s.1 ∙ ap (λ (z : List (List ℕ)). spelled opening ++ s.0.0 ∷ z) t.1 in
-    subst (λ (y : Two). (ws ≡ front_words y.0 y.1 ++ y.2) × IsName y.0 × IsName y.1) same (words, s.2, t.2)
+structure_again : (s : Structure) (r : Names) → IsStructure s → structure_of (structure_words s ++ r) ≡ Some (s, r)
+unfolding structure_of
+structure_again s r h =
+    let last = rule_words s.width s.clearance ++ r in
+    let tail = via_words s.vias ++ last in
+    ap (λ (ws : Names). layers_of ws >>= behind_layers) (joined_three (flat_map layer_words s.layers) (via_words s.vias) (rule_words s.width s.clearance) r)
+    ∙ ap (λ (o : Option (Names × Names)). o >>= behind_layers) (layers_again s.layers tail h.layers h.some h.most (no_layer s.vias s.width s.clearance r))
+    ∙ ap (λ (o : Option (Names × Names)). o >>= behind_vias s.layers) (vias_again s.vias last h.vias h.most_vias (no_via s.width s.clearance r))
+    ∙ ap (λ (o : Option Two). o >>= structure_last s.layers s.vias) (pair_again _ _ _ s.width s.clearance r h.width h.clearance)
 
-front_again : (n l : List ℕ) (r : List (List ℕ)) → IsName n → IsName l → front_of (front_words n l ++ r) ≡ Some (n, l, r)
-unfolding front_of
-front_again n l r h k =
-    named_again opening n (spelled to_layer ++ l ∷ r) front_more h ∙ named_again to_layer l r (front_last n) k
-
-abbrev rule_end : List ℕ → List ℕ × List (List ℕ) → Option Two
-rule_end w c = strip to_nets c.1 >>= λ d. Some (w, c.0, d)
-
-abbrev rule_more : List ℕ × List (List ℕ) → Option Two
-rule_more w = strip to_clearance w.1 >>= λ b. name_of b >>= λ c. strip to_nets c.1 >>= λ d. Some (w.0, c.0, d)
-
-rule_found : (ws : List (List ℕ)) (x : Two) → rule_of ws ≡ Some x → (ws ≡ rule_words x.0 x.1 ++ x.2) × IsName x.0 × IsName x.1
-unfolding rule_of
-rule_found ws x e =
-    let s = named_found to_width ws rule_more x e in
-    let t = named_found to_clearance s.0.1 (rule_end s.0.0) x s.3 in
-    let u = bind_some (strip to_nets t.0.1) (λ d. Some (s.0.0, t.0.0, d)) x t.3 in
-    let same : (s.0.0, t.0.0, u.0) ≡ x = some_is _ _ u.2 in
-    let tail : t.0.1 ≡ spelled to_nets ++ u.0 = strip_found to_nets t.0.1 u.0 u.1 in
-    let words : ws ≡ rule_words s.0.0 t.0.0 ++ u.0 =
-    s.1 ∙ ap (λ (z : List (List ℕ)). spelled to_width ++ s.0.0 ∷ z) t.1 ∙ ap (λ (z : List (List ℕ)). spelled to_width ++ s.0.0 ∷ (spelled to_clearance ++ t.0.0 ∷ z)) tail in
-    subst (λ (y : Two). (ws ≡ rule_words y.0 y.1 ++ y.2) × IsName y.0 × IsName y.1) same (words, s.2, t.2)
-
-rule_again : (w c : List ℕ) (r : List (List ℕ)) → IsName w → IsName c → rule_of (rule_words w c ++ r) ≡ Some (w, c, r)
-unfolding rule_of
-rule_again w c r h k =
-    named_again to_width w (spelled to_clearance ++ c ∷ (spelled to_nets ++ r)) rule_more h
-    ∙ named_again to_clearance c (spelled to_nets ++ r) (rule_end w) k
-    ∙ ap (λ (o : Option (List (List ℕ))). o >>= λ d. Some (w, c, d)) (strip_again to_nets r)
-
-end_case : (o : Option (List (List ℕ))) → is_end o ≡ true → o ≡ Some []
+end_case : (o : Option Names) → is_end o ≡ true → o ≡ Some []
 end_case None e = absurd cc
 end_case (Some []) e = refl
 end_case (Some (w ∷ ws)) e = absurd cc
 
-closed_found : (ws : List (List ℕ)) → is_closed ws ≡ true → ws ≡ spelled closing
+closed_found : (ws : Names) → is_closed ws ≡ true → ws ≡ closing
 unfolding is_closed
-closed_found ws e = strip_found closing ws [] (end_case (strip closing ws) e)
+closed_found ws e = strip_found (key.Right ∷ []) ws [] (end_case (strip (key.Right ∷ []) ws) e)
 
-closed_again : is_closed (spelled closing) ≡ true
+closed_again : is_closed closing ≡ true
 unfolding is_closed
-closed_again = ap is_end (strip_again closing [])
+closed_again = ap is_end (strip_again (key.Right ∷ []) [])
 
-and_case : (a b : Bool) (p q : Parts) → cond (a && b) (Some p) None ≡ Some q → (a ≡ true) × (b ≡ true) × (p ≡ q)
-and_case true true p q e = (refl, refl, some_is p q e)
-and_case true false p q e = absurd cc
-and_case false b p q e = absurd cc
+abbrev form_with : List ℕ → Structure → List Stack → Names → Form
+form_with n s l m = record { name = n; structure = s; stacks = l; nets = m }
 
-abbrev parts_of : Two → Two → List (List ℕ) → Parts
-parts_of f r ns = record { name = f.0; layer = f.1; width = r.0; clearance = r.1; nets = ns }
+abbrev form_last : List ℕ → Structure → List Stack → Names × Names → Option Form
+form_last n s l m = cond (is_closed m.1) (Some (form_with n s l m.0)) None
 
-joined : (ws : List (List ℕ)) (f r : Two) (ns tail : List (List ℕ)) → ws ≡ front_words f.0 f.1 ++ f.2 → f.2 ≡ rule_words r.0 r.1 ++ r.2 → r.2 ≡ flat_map net_words ns ++ tail → tail ≡ spelled closing
-    → ws ≡ form_words (parts_of f r ns)
-joined ws f r ns tail a b c d =
-    a ∙ ap (λ (z : List (List ℕ)). front_words f.0 f.1 ++ z) (b ∙ ap (λ (z : List (List ℕ)). rule_words r.0 r.1 ++ z) (c ∙ ap (λ (z : List (List ℕ)). flat_map net_words ns ++ z) d))
+abbrev behind_library : List ℕ → Structure → List Stack × Names → Option Form
+behind_library n s l = nets_of l.1 >>= form_last n s l.0
 
-abbrev behind_rule : Two → Two → Option Parts
-behind_rule f r = closed f r (nets_of 1000 [] r.2)
+abbrev behind_structure : List ℕ → Structure × Names → Option Form
+behind_structure n s = library_of s.1 >>= behind_library n s.0
 
-abbrev behind_front : Two → Option Parts
-behind_front f = rule_of f.2 >>= behind_rule f
+abbrev behind_front : List ℕ × Names → Option Form
+behind_front n = structure_of n.1 >>= behind_structure n.0
 
-pub form_found : (ws : List (List ℕ)) (p : Parts) → form_of ws ≡ Some p → HasForm ws p
+pub form_found : (ws : Names) (f : Form) → form_of ws ≡ Some f → HasForm ws f
 unfolding form_of
-form_found ws p e =
-    let f = bind_some (front_of ws) behind_front p e in
-    let r = bind_some (rule_of f.0.2) (behind_rule f.0) p f.2 in
-    let n = nets_found 1000 [] r.0.2 in
-    let out = nets_of 1000 [] r.0.2 in
-    let c = and_case (nat_lt 0 (length out.0)) (is_closed out.1) (parts_of f.0 r.0 out.0) p r.2 in
-    let ff = front_found ws f.0 f.1 in
-    let rr = rule_found f.0.2 r.0 r.1 in
-    let some : 0 < length out.0 = ltb-true _ _ c.0 in
-    let names : out.0 ≡ n.nets = n.names in
-    let same : parts_of f.0 r.0 n.nets ≡ p = ap (λ (ns : List (List ℕ)). parts_of f.0 r.0 ns) (sym names) ∙ c.2 in
-    let counted : 1 ≤ length n.nets = omega (arith, ap length names) in
-    subst (λ (q : Parts). HasForm ws q) same (record {
-      form = joined ws f.0 r.0 n.nets out.1 ff.0 rr.0 n.words (closed_found out.1 c.1);
-      name = ff.1;
-      layer = ff.2;
-      width = rr.1;
-      clearance = rr.2;
-      nets = n.formed;
-      some = counted;
-      most = n.most;
-      distinct = n.fresh;
+form_found ws f e =
+    let n = bind_some (front_of ws) behind_front f e in
+    let nn = between_found _ _ ws n.0 n.1 in
+    let s = bind_some (structure_of n.0.1) (behind_structure n.0.0) f n.2 in
+    let ss = structure_found n.0.1 s.0 s.1 in
+    let l = bind_some (library_of s.0.1) (behind_library n.0.0 s.0.0) f s.2 in
+    let ll = library_found s.0.1 l.0 l.1 in
+    let m = bind_some (nets_of l.0.1) (form_last n.0.0 s.0.0 l.0.0) f l.2 in
+    let mm = nets_found l.0.1 m.0 m.1 in
+    let c = cond_some (is_closed m.0.1) (Some (form_with n.0.0 s.0.0 l.0.0 m.0.0)) f m.2 in
+    let words : ws ≡ form_words (form_with n.0.0 s.0.0 l.0.0 m.0.0) =
+    nn.0 ∙ ap (λ (z : Names). front_words n.0.0 ++ z) (ss.0 ∙ ap (λ (z : Names). structure_words s.0.0 ++ z) (ll.words_are
+    ∙ ap (λ (z : Names). library_words l.0.0 ++ z) (mm.words_are ∙ ap (λ (z : Names). network_words m.0.0 ++ z) (closed_found m.0.1 c.0)))) in
+    subst (λ (g : Form). HasForm ws g) (some_is _ _ c.1) (record {
+      form = words;
+      name = nn.1;
+      structure = ss.1;
+      stacks = ll.formed;
+      most_stacks = ll.most;
+      nets = mm.formed;
+      some_net = mm.some;
+      most_nets = mm.most;
     })
 
-closed_is : (p : Parts) (f r : Two) (out : List (List ℕ) × List (List ℕ)) → 0 < length out.0 → is_closed out.1 ≡ true → closed f r out ≡ Some (parts_of f r out.0)
-closed_is p f r out lt e =
-    let a : nat_lt 0 (length out.0) ≡ true = lt-ltb _ _ lt in
-    ap (λ (b : Bool). cond (b && is_closed out.1) (Some (parts_of f r out.0)) None) a ∙ ap (λ (b : Bool). cond b (Some (parts_of f r out.0)) None) e
-
-pub form_again : (ws : List (List ℕ)) (p : Parts) → HasForm ws p → form_of ws ≡ Some p
+pub form_again : (ws : Names) (f : Form) → HasForm ws f → form_of ws ≡ Some f
 unfolding form_of
-form_again ws p h =
-    let tail = flat_map net_words p.nets ++ spelled closing in
-    let middle = rule_words p.width p.clearance ++ tail in
-    let a : front_of (front_words p.name p.layer ++ middle) ≡ Some (p.name, p.layer, middle) = front_again p.name p.layer middle h.name h.layer in
-    let b : rule_of middle ≡ Some (p.width, p.clearance, tail) = rule_again p.width p.clearance tail h.width h.clearance in
-    let c : nets_of 1000 [] tail ≡ (p.nets, spelled closing) = nets_again 1000 [] p.nets (spelled closing) h.nets h.distinct h.most (net_none (spelled (key.Right ∷ []))) in
-    let f : Two = (p.name, p.layer, middle) in
-    let r : Two = (p.width, p.clearance, tail) in
-    ap (λ (z : List (List ℕ)). front_of z >>= behind_front) h.form
-    ∙ ap (λ (o : Option Two). o >>= behind_front) a
-    ∙ ap (λ (o : Option Two). o >>= behind_rule (p.name, p.layer, middle)) b
-    ∙ ap (λ (o : List (List ℕ) × List (List ℕ)). closed (p.name, p.layer, middle) (p.width, p.clearance, tail) o) c
-    ∙ closed_is p (p.name, p.layer, middle) (p.width, p.clearance, tail) (p.nets, spelled closing) (omega (arith, h.some)) closed_again
+form_again ws f h =
+    let network = network_words f.nets ++ closing in
+    let library = library_words f.stacks ++ network in
+    let structure = structure_words f.structure ++ library in
+    ap (λ (z : Names). front_of z >>= behind_front) h.form
+    ∙ ap (λ (o : Option (List ℕ × Names)). o >>= behind_front) (between_again _ _ f.name structure h.name)
+    ∙ ap (λ (o : Option (Structure × Names)). o >>= behind_structure f.name) (structure_again f.structure library h.structure)
+    ∙ ap (λ (o : Option (List Stack × Names)). o >>= behind_library f.name f.structure) (library_again f.stacks network h.stacks h.most_stacks (no_library f.nets closing))
+    ∙ ap (λ (o : Option (Names × Names)). o >>= form_last f.name f.structure f.stacks) (nets_again f.nets closing h.nets h.some_net h.most_nets)
+    ∙ ap (λ (b : Bool). cond b (Some f) None) closed_again

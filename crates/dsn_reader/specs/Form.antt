@@ -1,95 +1,64 @@
--- Models: the Specctra reference's design descriptor `(pcb ..)`, in the one form that is read: each list once and in this
--- order, one layer, nets by name alone. Left out: all else of the reference. Cited by: `read_design`, `one_design`.
-use Rattle.std.specs.Prelude.{◌≡◌, ℕ, ◌==◌, ◌-◌, ◌*◌, ◌≤◌, false, List, [], ◌∷◌, ◌++◌, map, take, drop, length}
-use Rattle.std.specs.List.{flat_map, list_any, AllByRecursion}
-use Rattle.std.specs.Str.Parse.{AllDigits, digits_value}
+-- Models: the Specctra reference's design descriptor `(pcb ..)`, in the one form that is read: each list once and in one
+-- order, nets by name alone, round pads. Left out: all else of the reference. Cited by: `read_design`, `one_design`.
+use Rattle.std.specs.Prelude.{◌≡◌, ℕ, ◌==◌, ◌≤◌, false, List, length}
+use Rattle.std.specs.List.{list_any, AllByRecursion}
 use Rattle.board_rules.specs.declared.design.Design.{Design}
 use Rattle.sexp_text.specs.declared.token.Token.{Token}
 use Rattle.sexp_text.specs.Text.{HasTokens}
-use Rattle.dsn_reader.specs.declared.keyword.Keyword.{Keyword}
-use Rattle.dsn_reader.specs.declared.keyword.Keyword.TheVariants.{Left, Right, Pcb, Unit, Micrometre, Structure, Layer, Kind, Signal, Rule, Width, Clearance, Network, Net}
-use Rattle.dsn_reader.specs.declared.words.Words.{Words}
-use Rattle.dsn_reader.specs.Keywords.{text_of, is_bracket}
-use Rattle.dsn_reader.specs.Names.{AreDistinct}
+use Rattle.dsn_reader.specs.declared.form.Circle.{Circle}
+use Rattle.dsn_reader.specs.declared.form.Stack.{Stack}
+use Rattle.dsn_reader.specs.declared.form.Structure.{Structure}
+use Rattle.dsn_reader.specs.declared.form.Form.{Form}
+use Rattle.dsn_reader.specs.Words.{IsName, words_of}
+use Rattle.dsn_reader.specs.Lists.{form_words}
+use Rattle.dsn_reader.specs.Stated.{States}
 
--- the bytes of each token of the text, in order
-abbrev pub words_of : List ℕ → List Token → List (List ℕ)
-words_of text tokens = map (λ t. take (t.end - t.start) (drop t.start text)) tokens
+-- the most bytes that a text has, and so more than its words
+abbrev pub most_bytes : ℕ
+most_bytes = 67108864
 
--- the words that are left
-unfoldable pub left : Words → List (List ℕ)
-left w = words_of w.text.now w.tokens.now
+-- both words of a circle are names
+pub record IsCircle (c : Circle) : Type 0 where
+  pub layer : IsName c.layer
+  pub diameter : IsName c.diameter
 
--- the words of keywords
-abbrev pub spelled : List Keyword → List (List ℕ)
-spelled keywords = map text_of keywords
+-- a padstack with a name, and with a shape
+pub record IsStack (s : Stack) : Type 0 where
+  pub name : IsName s.name
+  pub circles : AllByRecursion IsCircle s.circles
+  pub some : 1 ≤ length s.circles
+  pub most : length s.circles ≤ most_bytes
 
--- what a text states, in its words
-pub record Parts : Type 0 where
-  pub name : List ℕ
-  pub layer : List ℕ
-  pub width : List ℕ
-  pub clearance : List ℕ
-  pub nets : List (List ℕ)
+-- names for 1 to 32 layers and for the vias, and words for the lengths
+pub record IsStructure (s : Structure) : Type 0 where
+  pub layers : AllByRecursion IsName s.layers
+  pub some : 1 ≤ length s.layers
+  pub most : length s.layers ≤ 32
+  pub vias : AllByRecursion IsName s.vias
+  pub most_vias : length s.vias ≤ most_bytes
+  pub width : IsName s.width
+  pub clearance : IsName s.clearance
 
--- the words of `(net <name>)`
-abbrev pub net_words : List ℕ → List (List ℕ)
-net_words name = spelled (Left ∷ Net ∷ []) ++ name ∷ spelled (Right ∷ [])
-
--- the words up to the layer's name
-abbrev pub front_words : List ℕ → List ℕ → List (List ℕ)
-front_words name layer =
-    spelled (Left ∷ Pcb ∷ []) ++ name ∷ (spelled (Left ∷ Unit ∷ Micrometre ∷ Right ∷ Left ∷ Structure ∷ Left ∷ Layer ∷ []) ++ layer ∷ [])
-
--- the words behind the layer's name, up to the nets
-abbrev pub rule_words : List ℕ → List ℕ → List (List ℕ)
-rule_words width clearance =
-    spelled (Left ∷ Kind ∷ Signal ∷ Right ∷ Right ∷ Left ∷ Rule ∷ Left ∷ Width ∷ []) ++ width ∷ (spelled (Right ∷ Left ∷ Clearance ∷ []) ++ clearance ∷ spelled (Right ∷ Right ∷ Right ∷ Left ∷ Network ∷ []))
-
--- all words of the form, in order
-abbrev pub form_words : Parts → List (List ℕ)
-form_words p = front_words p.name p.layer ++ (rule_words p.width p.clearance ++ (flat_map net_words p.nets ++ spelled (Right ∷ Right ∷ [])))
-
--- a word that is no bracket
-abbrev pub IsName : List ℕ → Type 0
-IsName word = is_bracket word ≡ false
-
--- words of this form: with names for names, and 1 to 1,000 nets that differ
-pub record HasForm (words : List (List ℕ)) (p : Parts) : Type 0 where
-  pub form : words ≡ form_words p
-  pub name : IsName p.name
-  pub layer : IsName p.layer
-  pub width : IsName p.width
-  pub clearance : IsName p.clearance
-  pub nets : AllByRecursion IsName p.nets
-  pub some : 1 ≤ length p.nets
-  pub most : length p.nets ≤ 1000
-  pub distinct : AreDistinct p.nets
-
--- one to five digits, which state so many nm in micrometres
-pub record IsSize (digits : List ℕ) (size : ℕ) : Type 0 where
-  pub some : 1 ≤ length digits
-  pub most : length digits ≤ 5
-  pub numeral : AllDigits 10 digits
-  pub value : size ≡ 1000 * digits_value 10 digits
-
--- the design that the parts state
-pub record IsOf (p : Parts) (d : Design) : Type 0 where
-  pub name : d.name ≡ p.name
-  pub layers : d.layers ≡ p.layer ∷ []
-  pub nets : d.nets ≡ p.nets
-  pub width : IsSize p.width d.rule.width
-  pub clearance : IsSize p.clearance d.rule.clearance
+-- words of this form, with at most 65,535 padstacks and 1 to 1,000 nets
+pub record HasForm (words : List (List ℕ)) (f : Form) : Type 0 where
+  pub form : words ≡ form_words f
+  pub name : IsName f.name
+  pub structure : IsStructure f.structure
+  pub stacks : AllByRecursion IsStack f.stacks
+  pub most_stacks : length f.stacks ≤ 65535
+  pub nets : AllByRecursion IsName f.nets
+  pub some_net : 1 ≤ length f.nets
+  pub most_nets : length f.nets ≤ 1000
 
 -- the words spell the design
 pub record Spells (words : List (List ℕ)) (d : Design) : Type 0 where
-  pub parts : Parts
-  pub form : HasForm words parts
-  pub of : IsOf parts d
+  pub form : Form
+  pub has : HasForm words form
+  pub states : States form d.parts
 
 -- a text of at most 64 MiB
 abbrev pub IsShort : List ℕ → Type 0
-IsShort text = length text ≤ 67108864
+IsShort text = length text ≤ most_bytes
 
 -- a text without the byte `"`
 abbrev pub IsUnquoted : List ℕ → Type 0

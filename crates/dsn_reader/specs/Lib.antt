@@ -1,4 +1,9 @@
 pub mod Keywords
 pub mod Names
+pub mod Words
+pub mod Lists
+pub mod Stated
 pub mod Form
 pub mod Reading
+pub mod FormReading
+pub mod Numbering

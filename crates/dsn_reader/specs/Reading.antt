@@ -1,17 +1,15 @@
--- The words of a design read from left to right: what the functions compute, against which `HasForm` is proved.
-use Rattle.std.specs.Prelude.{◌≡◌, ℕ, zero, suc, nat_lt, ◌&&◌, Bool, true, false, List, [], ◌∷◌, ◌++◌, length, Option, Some, None, Result, Ok, Err, if◌then◌else◌}
+-- Words read from left to right: what the functions compute of keywords, names and lists.
+-- Against it `HasForm` is proved.
+use Rattle.std.specs.Prelude.{◌≡◌, ℕ, zero, suc, nat_lt, List, [], ◌∷◌, ◌++◌, length, Option, Some, None, Result, Ok, Err, if◌then◌else◌}
 use Rattle.std.specs.Str.{bytes_eq}
 use Rattle.board_rules.specs.declared.design.Design.{Design}
 use Rattle.dsn_reader.specs.declared.fault.ReadWhy.{ReadWhy}
 use Rattle.dsn_reader.specs.declared.fault.ReadWhy.TheVariants.{Fault, Memory}
 use Rattle.dsn_reader.specs.declared.fault.DesignFault.{DesignFault}
 use Rattle.dsn_reader.specs.declared.fault.DesignKind.TheVariants.{Later}
-use Rattle.dsn_reader.specs.declared.form.Form.{Form}
 use Rattle.dsn_reader.specs.declared.keyword.Keyword.{Keyword}
 use Rattle.dsn_reader.specs.declared.keyword.Keyword.TheVariants as key
 use Rattle.dsn_reader.specs.Keywords.{text_of, is_bracket}
-use Rattle.dsn_reader.specs.Names.{is_among}
-use Rattle.dsn_reader.specs.Form.{Parts}
 
 -- what was returned, seen by view, is what reading gives
 abbrev pub Shows : {X Y : Type 0} → (X → Y) → Option X → Option Y → Type 0
@@ -32,6 +30,12 @@ abbrev pub Gives : {X Y : Type 0} → (X → Y) → Result X ReadWhy → Option 
 Gives view (Ok x) read = read ≡ Some (view x)
 Gives view (Err why) read = WhyNot (read ≡ None) why
 
+-- what was returned is this design, unless memory ran out
+abbrev pub IsReadAs : Result Design ReadWhy → Design → Type 0
+IsReadAs (Ok x) d = x ≡ d
+IsReadAs (Err (Fault f)) d = ⊥
+IsReadAs (Err Memory) d = Unit {0}
+
 infixl 10 ◌>>=◌
 abbrev pub ◌>>=◌ : {A B : Type 0} → Option A → (A → Option B) → Option B
 (Some x) >>= f = f x
@@ -48,69 +52,36 @@ unfoldable pub name_of : List (List ℕ) → Option (List ℕ × List (List ℕ)
 name_of [] = None
 name_of (w ∷ ws) = if is_bracket w then None else Some (w, ws)
 
--- the name of a net's list, and what follows
-unfoldable pub net_of : List (List ℕ) → Option (List ℕ × List (List ℕ))
-net_of ws = do
-  a ← strip (key.Left ∷ key.Net ∷ []) ws
+-- the name between these keywords, and what follows
+unfoldable pub between : List Keyword → List Keyword → List (List ℕ) → Option (List ℕ × List (List ℕ))
+between before behind ws = do
+  a ← strip before ws
   n ← name_of a
-  b ← strip (key.Right ∷ []) n.1
+  b ← strip behind n.1
   Some (n.0, b)
 
--- goes on behind a net whose name was not seen
-abbrev pub onward : List (List ℕ) → List (List ℕ) → (List (List ℕ) → List (List ℕ) → List (List ℕ) × List (List ℕ)) → Option (List ℕ × List (List ℕ)) → List (List ℕ) × List (List ℕ)
+-- the two names among these keywords, and what follows
+unfoldable pub pair_of : List Keyword → List Keyword → List Keyword → List (List ℕ) → Option (List ℕ × List ℕ × List (List ℕ))
+pair_of before among behind ws = do
+  a ← strip before ws
+  m ← name_of a
+  x ← between among behind m.1
+  Some (m.0, x.0, x.1)
+
+-- goes on behind a thing that was read
+abbrev pub onward : {X : Type 0} → List X → List (List ℕ) → (List X → List (List ℕ) → List X × List (List ℕ)) → Option (X × List (List ℕ)) → List X × List (List ℕ)
 onward seen ws go None = (seen, ws)
-onward seen ws go (Some n) = if is_among n.0 seen then (seen, ws) else go (seen ++ n.0 ∷ []) n.1
+onward seen ws go (Some x) = go (seen ++ x.0 ∷ []) x.1
 
--- at most so many nets behind those seen, and what follows
-unfoldable pub nets_of : ℕ → List (List ℕ) → List (List ℕ) → List (List ℕ) × List (List ℕ)
-nets_of zero seen ws = (seen, ws)
-nets_of (suc n) seen ws = onward seen ws (nets_of n) (net_of ws)
+-- at most so many things behind those seen, and what follows
+unfoldable pub many : {X : Type 0} → (List (List ℕ) → Option (X × List (List ℕ))) → ℕ → List X → List (List ℕ) → List X × List (List ℕ)
+many step zero seen ws = (seen, ws)
+many step (suc n) seen ws = onward seen ws (many step n) (step ws)
 
--- the names of the design and of its layer, and what follows
-unfoldable pub front_of : List (List ℕ) → Option (List ℕ × List ℕ × List (List ℕ))
-front_of ws = do
-  a ← strip (key.Left ∷ key.Pcb ∷ []) ws
-  n ← name_of a
-  b ← strip (key.Left ∷ key.Unit ∷ key.Micrometre ∷ key.Right ∷ key.Left ∷ key.Structure ∷ key.Left ∷ key.Layer ∷ []) n.1
-  l ← name_of b
-  Some (n.0, l.0, l.1)
+-- what follows a list of so many things, which has to have one
+unfoldable pub list_end : ℕ → List (List ℕ) → Option (List (List ℕ))
+list_end count ws = if nat_lt 0 count then strip (key.Right ∷ []) ws else None
 
--- the words of the width and the clearance, and what follows
-unfoldable pub rule_of : List (List ℕ) → Option (List ℕ × List ℕ × List (List ℕ))
-rule_of ws = do
-  a ← strip (key.Left ∷ key.Kind ∷ key.Signal ∷ key.Right ∷ key.Right ∷ key.Left ∷ key.Rule ∷ key.Left ∷ key.Width ∷ []) ws
-  w ← name_of a
-  b ← strip (key.Right ∷ key.Left ∷ key.Clearance ∷ []) w.1
-  c ← name_of b
-  d ← strip (key.Right ∷ key.Right ∷ key.Right ∷ key.Left ∷ key.Network ∷ []) c.1
-  Some (w.0, c.0, d)
-
--- the words end here
-abbrev pub is_end : Option (List (List ℕ)) → Bool
-is_end None = false
-is_end (Some []) = true
-is_end (Some (w ∷ ws)) = false
-
--- two lists end here, and the words with them
-unfoldable pub is_closed : List (List ℕ) → Bool
-is_closed ws = is_end (strip (key.Right ∷ key.Right ∷ []) ws)
-
-abbrev pub closed : List ℕ × List ℕ × List (List ℕ) → List ℕ × List ℕ × List (List ℕ) → List (List ℕ) × List (List ℕ) → Option Parts
-closed f r n =
-    if nat_lt 0 (length n.0) && is_closed n.1 then Some (record { name = f.0; layer = f.1; width = r.0; clearance = r.1; nets = n.0 }) else None
-
--- the parts that the words state
-unfoldable pub form_of : List (List ℕ) → Option Parts
-form_of ws = do
-  f ← front_of ws
-  r ← rule_of f.2
-  closed f r (nets_of 1000 [] r.2)
-
-abbrev pub parts : Form → Parts
-parts f = record { name = f.name.now; layer = f.layer.now; width = f.width.now; clearance = f.clearance.now; nets = f.nets }
-
--- what was returned is this design, unless memory ran out
-abbrev pub IsReadAs : Result Design ReadWhy → Design → Type 0
-IsReadAs (Ok x) d = x ≡ d
-IsReadAs (Err (Fault f)) d = ⊥
-IsReadAs (Err Memory) d = Unit {0}
+-- one or more things, where their list ends behind them, and what follows
+abbrev pub filled : {X : Type 0} → List X × List (List ℕ) → Option (List X × List (List ℕ))
+filled x = list_end (length x.0) x.1 >>= λ b. Some (x.0, b)

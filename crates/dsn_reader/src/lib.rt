@@ -1,13 +1,15 @@
-//! The reader of designs: today's one form of a SPECCTRA text.
+//! The reader of designs: one form of a SPECCTRA text.
 #![tactic(auto)]
 
 mod fault;
 mod form;
 mod keyword;
+mod lists;
 mod names;
-mod nets;
+mod numbering;
 mod reader;
 mod sizes;
+mod stacks;
 mod words;
 
 pub use fault::{DesignFault, DesignKind, ReadWhy};

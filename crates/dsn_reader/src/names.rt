@@ -1,5 +1,7 @@
 //! Names in the order in which they came, each once, found by a hash map.
-ghost use Rattle.std.specs.Prelude.{◌≡◌, ◌++◌, [], ◌∷◌, false, is_ok, if◌then◌else◌};
+ghost use Rattle.std.specs.Prelude.{◌≡◌, ◌<◌, ◌++◌, [], ◌∷◌, length, false, is_ok, IfSome, if◌then◌else◌};
+ghost use Rattle.std.specs.List.{position};
+ghost use Rattle.std.specs.Str.{bytes_eq};
 ghost use Rattle.dsn_reader.specs.Names.{is_among};
 
 use indexmap::IndexSet;
@@ -35,6 +37,14 @@ impl NameSet {
         ensures { result ≡ is_among name.now self.now }
     {
         self.names.contains(name)
+    }
+
+    /// The name's number, from 0.
+    pub fn place(&self, name: &[u8]) -> Option<usize>
+        ensures place { result ≡ position (bytes_eq name.now) self.now }
+        ensures bound { IfSome result (λ n. n < length self.now) }
+    {
+        self.names.get_index_of(name)
     }
 
     /// Adds a name that isn't there. After an `Err`, for want of memory, the names are as before.

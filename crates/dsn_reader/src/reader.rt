@@ -1,21 +1,22 @@
 //! A design read from its text.
-ghost use Rattle.std.specs.Prelude.{◌≡◌, ◌≤◌, ◌==◌, ◌∷◌, [], List, ℕ, length, IfOk, IfErr};
+ghost use Rattle.std.specs.Prelude.{◌≡◌, ◌≤◌, ◌==◌, List, ℕ, length, IfOk, IfErr};
 ghost use Rattle.std.specs.List.{list_any};
 ghost use Rattle.board_rules.specs.declared.design.Design.{Design};
-ghost use Rattle.board_rules.specs.Needs.{IsFitDesign};
+ghost use Rattle.board_rules.specs.Designs.{IsSound};
 ghost use Rattle.sexp_text.specs.declared.token.Token.{Token};
 ghost use Rattle.sexp_text.specs.Text.{HasTokens};
-ghost use Rattle.dsn_reader.specs.Form.{IsDesign, IsOf, Spells, left};
-ghost use Rattle.dsn_reader.specs.Reading.{IsReadAs, WhyNot, parts};
+ghost use Rattle.dsn_reader.specs.Words.{left};
+ghost use Rattle.dsn_reader.specs.Form.{IsDesign, Spells};
+ghost use Rattle.dsn_reader.specs.Reading.{IsReadAs, WhyNot};
 
 use crate::fault::{ReadWhy, later};
-use crate::form::{Form, form_at};
-use crate::sizes::size_of;
+use crate::form::form_at;
+use crate::numbering::parts_of;
 use crate::words::Words;
-use board_rules::{Design, Names, Rule};
+use board_rules::Design;
 use layout_io::Row;
 use sexp_text::{TextFault, Token, lex};
-use std::alloc::{AllocError, Global};
+use std::alloc::Global;
 
 // The tokens of a text.
 fn tokens_of(alloc: Global, bytes: &[u8]) -> Result<Row<Token>, ReadWhy>
@@ -31,43 +32,16 @@ fn tokens_of(alloc: Global, bytes: &[u8]) -> Result<Row<Token>, ReadWhy>
     }
 }
 
-// A list of one name.
-fn one_name(alloc: Global, name: &[u8]) -> Result<Names, AllocError>
-    ensures { IfOk result (λ x. x ≡ name.now ∷ []) }
-{
-    let mut names = Row::new(alloc);
-    names.push(Row::from_slice(alloc, name)?)?;
-    Ok(names)
-}
-
-// The design that the parts of a text state.
-fn design_with(alloc: Global, form: Form<'_>) -> Result<Design, ReadWhy>
-    ensures found { IfOk result (IsOf (parts form.entry)) }
-    ensures fault { IfErr result (WhyNot ((d : Design) → IsOf (parts form.entry) d → ⊥)) }
-{
-    let Some(width) = size_of(form.width) else {
-        return Err(later());
-    };
-    let Some(clearance) = size_of(form.clearance) else {
-        return Err(later());
-    };
-    let name = Row::from_slice(alloc, form.name)?;
-    let layers = one_name(alloc, form.layer)?;
-    Ok(Design {
-        name,
-        layers,
-        nets: form.nets,
-        rule: Rule { width, clearance },
-    })
-}
-
 // The design that words spell.
 fn design_at(alloc: Global, list: Words<'_>) -> Result<Design, ReadWhy>
     ensures found { IfOk result (Spells (left list.entry)) }
     ensures fault { IfErr result (WhyNot ((d : Design) → Spells (left list.entry) d → ⊥)) }
+    ensures fits { IfOk result (λ d. IsSound d.parts) }
 {
     let form = form_at(alloc, list)?;
-    design_with(alloc, form)
+    let parts = parts_of(alloc, form)?;
+    let design = Design::of_parts(parts)?;
+    Ok(design)
 }
 
 // Whether a text has the byte `"`.
@@ -85,8 +59,8 @@ pub fn read_design(alloc: Global, bytes: &[u8]) -> Result<Design, ReadWhy>
     ensures only { (d : Design) → IsDesign bytes.now d → IsReadAs result d }
     // The one fault comes only where no design is spelled.
     ensures fault { IfErr result (WhyNot ((d : Design) → IsDesign bytes.now d → ⊥)) }
-    // The numbers of what is read are within the limits.
-    ensures fits { IfOk result IsFitDesign }
+    // What is read is sound: its numbers name what is there and are within the limits.
+    ensures fits { IfOk result (λ d. IsSound d.parts) }
 {
     if bytes.len() > 67_108_864 {
         return Err(later());

@@ -1,7 +1,7 @@
 //! Lengths in whole micrometres.
-ghost use Rattle.std.specs.Prelude.{◌≡◌, ◌≢◌, ◌<◌, ◌^◌, ℕ, length, IfSome, IfNone, slice_index};
+ghost use Rattle.std.specs.Prelude.{◌≡◌, ◌≢◌, ◌<◌, ◌^◌, length, IfSome, IfNone, slice_index};
 ghost use Rattle.std.specs.Str.Parse.{AllDigits, digits_value};
-ghost use Rattle.dsn_reader.specs.Form.{IsSize};
+ghost use Rattle.dsn_reader.specs.Numbering.{size_in};
 
 use std::str;
 
@@ -17,8 +17,7 @@ fn value_of(digits: &[u8]) -> Option<u32>
 
 /// The length in nm that one to five digits state in micrometres.
 pub fn size_of(digits: &[u8]) -> Option<u32>
-    ensures some { IfSome result (IsSize digits.now) }
-    ensures none { IfNone result ((n : ℕ) → IsSize digits.now n → ⊥) }
+    ensures { result ≡ size_in digits.now }
 {
     if digits.is_empty() {
         return None;

@@ -1,7 +1,7 @@
 //! The words that are left of a text, and what follows those that are read.
 ghost use Rattle.std.specs.Prelude.{◌≡◌, ◌∷◌, [], ◌-◌, take, drop, MatchOption};
-ghost use Rattle.dsn_reader.specs.Form.{left};
-ghost use Rattle.dsn_reader.specs.Reading.{Shows, strip, name_of};
+ghost use Rattle.dsn_reader.specs.Words.{left};
+ghost use Rattle.dsn_reader.specs.Reading.{Shows, strip, name_of, between, pair_of, list_end};
 
 use crate::keyword::{Keyword, is_bracket};
 use sexp_text::Token;
@@ -24,7 +24,7 @@ fn piece(text: &[u8], start: u32, end: u32) -> &[u8]
 }
 
 /// The next word, and what follows it.
-#[tactic(auto, unfolding(crate::specs::Form::left))]
+#[tactic(auto, unfolding(crate::specs::Words::left))]
 pub fn word_at(list: Words<'_>) -> Option<(&[u8], Words<'_>)>
     ensures { MatchOption result (left list.entry ≡ []) (λ x. left list.entry ≡ x.0.now ∷ left x.1) }
 {
@@ -65,4 +65,46 @@ pub fn name_at(list: Words<'_>) -> Option<(&[u8], Words<'_>)>
         return None;
     }
     Some((word, rest))
+}
+
+/// The name that comes next between these keywords, and what follows them.
+#[tactic(auto, unfolding(crate::specs::Reading::between))]
+pub fn name_between<'a>(
+    list: Words<'a>,
+    before: &[Keyword],
+    behind: &[Keyword],
+) -> Option<(&'a [u8], Words<'a>)>
+    ensures { Shows (λ x. (x.0.now, left x.1)) result (between before.now behind.now (left list.entry)) }
+{
+    let rest = after_keywords(list, before)?;
+    let (name, rest) = name_at(rest)?;
+    let rest = after_keywords(rest, behind)?;
+    Some((name, rest))
+}
+
+/// The two names that come next among these keywords, and what follows them.
+#[tactic(auto, unfolding(crate::specs::Reading::pair_of))]
+pub fn names_among<'a>(
+    list: Words<'a>,
+    before: &[Keyword],
+    among: &[Keyword],
+    behind: &[Keyword],
+) -> Option<(&'a [u8], &'a [u8], Words<'a>)>
+    ensures { Shows (λ x. (x.0.now, x.1.now, left x.2)) result (pair_of before.now among.now behind.now (left list.entry)) }
+{
+    let rest = after_keywords(list, before)?;
+    let (first, rest) = name_at(rest)?;
+    let (second, rest) = name_between(rest, among, behind)?;
+    Some((first, second, rest))
+}
+
+/// What follows a list of so many things that ends here. There has to be one at least.
+#[tactic(auto, unfolding(crate::specs::Reading::list_end))]
+pub fn list_end(count: usize, list: Words<'_>) -> Option<Words<'_>>
+    ensures { Shows left result (list_end count (left list.entry)) }
+{
+    if count == 0 {
+        return None;
+    }
+    after_keywords(list, &[Keyword::Right])
 }

@@ -1,10 +1,10 @@
 use Rattle.std.proofs.Common.{List, sym, subst, ◌∙◌}
 use Rattle.board_rules.specs.declared.design.Design.{Design}
-use Rattle.board_rules.specs.Needs.{IsFitDesign}
 use Rattle.sexp_text.specs.declared.token.Token.{Token}
 use Rattle.sexp_text.specs.Text.{HasTokens}
-use Rattle.dsn_reader.specs.Form.{IsDesign, Spells, IsUnquoted, left, words_of}
-use Rattle.dsn_reader.proofs.Designs.{ok_then, err_then, design_found, design_spelled, design_only, spelled_fits}
+use Rattle.dsn_reader.specs.Words.{left, words_of}
+use Rattle.dsn_reader.specs.Form.{IsDesign, Spells, IsUnquoted}
+use Rattle.dsn_reader.proofs.Designs.{ok_then, err_then, design_found, design_spelled, design_only}
 use Rattle.dsn_reader.proofs.reader.read_design.Goals as goal
 
 pub returns-clause-found : goal.returns-clause-found
@@ -25,8 +25,3 @@ unfolding left
 returns-clause-fault c =
     err_then ((d : Design) → Spells (words_of c.args.bytes.now c.as_slice.result.now) d → ⊥) ((d : Design) → IsDesign c.args.bytes.now d → ⊥) c.design_at.result c.design_at.ensures.fault
     (λ none d h. none d (design_spelled c.args.bytes.now c.as_slice.result.now (λ us k. c.in_ok-tokens.ensures.one us k ∙ sym c.as_slice.ensures) d h))
-
-pub returns-clause-fits : goal.returns-clause-fits
-unfolding left
-returns-clause-fits c =
-    ok_then (Spells (words_of c.args.bytes.now c.as_slice.result.now)) IsFitDesign c.design_at.result c.design_at.ensures.found (spelled_fits (words_of c.args.bytes.now c.as_slice.result.now))

@@ -1,5 +1,5 @@
 use Rattle.std.proofs.Common.{◌≡◌, drop}
-use Rattle.dsn_reader.specs.Form.{left}
+use Rattle.dsn_reader.specs.Words.{left}
 use Rattle.dsn_reader.specs.Reading.{strip}
 use Rattle.dsn_reader.proofs.words.after_keywords.Given as goal
 
