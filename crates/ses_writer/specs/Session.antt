@@ -1,41 +1,28 @@
--- Models: the session descriptor of the SPECCTRA reference, with routes alone. Numbers are nanometres.
-use Rattle.std.specs.Prelude.{ℕ, ◌+◌, Bool, List, [], ◌∷◌, ◌++◌, codes, decimal, ◌==◌, if◌then◌else◌, slice_index_or}
-use Rattle.std.specs.Fmt.{signed_decimal}
+-- Models: the session descriptor of the SPECCTRA reference, with padstacks and routes. Numbers are nanometres.
+use Rattle.std.specs.Prelude.{ℕ, ◌+◌, Bool, ◌||◌, List, [], ◌∷◌, ◌++◌, codes, if◌then◌else◌}
 use Rattle.std.specs.List.{flat_map, filter, list_any}
-use Rattle.seg_geometry.specs.declared.points.Pt.{Pt}
-use Rattle.board_items.specs.declared.items.Item.{Item}
-use Rattle.board_items.specs.declared.items.Item.TheVariants as items
-use Rattle.board_rules.specs.declared.design.Design.{Design}
-use Rattle.board_core.specs.declared.board.Live.{Live}
+use Rattle.board_rules.specs.declared.design.NetRow.{NetRow}
+use Rattle.board_rules.specs.declared.design.Parts.{Parts}
+use Rattle.board_core.specs.declared.live.Live.{Live}
 use Rattle.ses_writer.specs.Names.{name_text}
+use Rattle.ses_writer.specs.Routes.{item_text, is_wire_of, is_via_of}
+use Rattle.ses_writer.specs.Library.{stacks_text}
 
--- the net of an item
-abbrev pub net_of : Item → ℕ
-net_of (items.Wire net layer width points fix) = net
+-- items as they are written, one after another
+abbrev pub items_text : Parts → List Live → List ℕ
+items_text p live = flat_map (λ (l : Live). item_text p l.item) live
 
--- the layer of an item
-abbrev pub layer_of_item : Item → ℕ
-layer_of_item (items.Wire net layer width points fix) = layer
+-- the wires of a net by their numbers
+abbrev pub wires_text : Parts → List Live → ℕ → List ℕ
+wires_text p live net = items_text p (filter (λ (l : Live). is_wire_of net l.item) live)
 
--- the live item is of this net
-abbrev pub is_of : ℕ → Live → Bool
-is_of net l = net_of l.item == net
+-- the vias of a net by their numbers
+abbrev pub vias_text : Parts → List Live → ℕ → List ℕ
+vias_text p live net = items_text p (filter (λ (l : Live). is_via_of net l.item) live)
 
--- a path begins
-unfoldable pub path_open : List ℕ
-path_open = codes "          (path "
-
--- a path ends
-unfoldable pub path_close : List ℕ
-path_close = codes "          )\n"
-
--- a wire begins
-unfoldable pub wire_open : List ℕ
-wire_open = codes "        (wire\n"
-
--- a wire ends
-unfoldable pub wire_close : List ℕ
-wire_close = codes "        )\n"
+-- the net has a live wire or via
+abbrev pub has_routes : List Live → ℕ → Bool
+has_routes live net = list_any (λ (l : Live). is_wire_of net l.item || is_via_of net l.item) live
 
 -- a net begins
 unfoldable pub net_open : List ℕ
@@ -45,6 +32,16 @@ net_open = codes "      (net "
 unfoldable pub net_close : List ℕ
 net_close = codes "      )\n"
 
+-- wires and then vias under their net's name
+unfoldable pub net_text : List ℕ → List ℕ → List ℕ → List ℕ
+net_text name wires vias = net_open ++ (name_text name ++ (codes "\n" ++ (wires ++ (vias ++ net_close))))
+
+-- the nets with a live wire or via, in the design's order, from this number on
+abbrev pub nets_text : Parts → List Live → ℕ → List NetRow → List ℕ
+nets_text p live net [] = []
+nets_text p live net (row ∷ rest) =
+    (if has_routes live net then net_text row.name (wires_text p live net) (vias_text p live net) else []) ++ nets_text p live (net + 1) rest
+
 -- a session begins
 unfoldable pub session_open : List ℕ
 session_open = codes "(session "
@@ -53,55 +50,22 @@ session_open = codes "(session "
 unfoldable pub design_open : List ℕ
 design_open = codes "\n  (base_design "
 
--- the routes begin: their unit, who writes them, no padstacks, and the nets
+-- the routes begin: their unit, who writes them, and the padstacks
 unfoldable pub routes_open : List ℕ
-routes_open = codes ")\n  (routes\n    (resolution um 1000)\n    (parser\n      (host_cad layout_server)\n      (host_version 1)\n    )\n    (library_out\n    )\n    (network_out\n"
+routes_open = codes ")\n  (routes\n    (resolution um 1000)\n    (parser\n      (host_cad layout_server)\n      (host_version 1)\n    )\n    (library_out\n"
 
--- a point of a path, on a line of its own
-unfoldable pub point_line : Pt → List ℕ
-point_line p = codes "            " ++ (signed_decimal p.x ++ (codes " " ++ (signed_decimal p.y ++ codes "\n")))
-
--- the first line of a path: its layer's name and its width
-unfoldable pub path_line : List ℕ → ℕ → List ℕ
-path_line layer width = path_open ++ (name_text layer ++ (codes " " ++ (decimal width ++ codes "\n")))
-
--- a fixed wire says so
-unfoldable pub type_line : Bool → List ℕ
-type_line fix = if fix then codes "          (type fix)\n" else []
-
--- a wire: its path, and whether it is fixed
-unfoldable pub wire_text : List ℕ → ℕ → List Pt → Bool → List ℕ
-wire_text layer width points fix = wire_open ++ (path_line layer width ++ (flat_map point_line points ++ (path_close ++ (type_line fix ++ wire_close))))
-
--- an item of the board as a wire of its net, on the layer of this number
-unfoldable pub item_text : List (List ℕ) → Item → List ℕ
-item_text layers (items.Wire net layer width points fix) = wire_text (slice_index_or layers layer []) width points fix
-
-abbrev pub live_text : List (List ℕ) → Live → List ℕ
-live_text layers l = item_text layers l.item
-
--- the items of one net under its name, in the order of their numbers
-unfoldable pub net_list : List (List ℕ) → List Live → ℕ → List ℕ → List ℕ
-net_list layers live net name =
-    net_open ++ (name_text name ++ (codes "\n" ++ (flat_map (live_text layers) (filter (is_of net) live) ++ net_close)))
-
--- a net without live items is left out
-unfoldable pub net_text : List (List ℕ) → List Live → ℕ → List ℕ → List ℕ
-net_text layers live net name = if list_any (is_of net) live then net_list layers live net name else []
-
--- the nets in the design's order, from this number on
-abbrev pub nets_text : List (List ℕ) → List Live → ℕ → List (List ℕ) → List ℕ
-nets_text layers live net [] = []
-nets_text layers live net (name ∷ names) = net_text layers live net name ++ nets_text layers live (net + 1) names
-
--- the lines before the nets
+-- the lines before the padstacks
 unfoldable pub front_text : List ℕ → List ℕ
 front_text name = session_open ++ (name_text name ++ (design_open ++ (name_text name ++ routes_open)))
+
+-- the lines between padstacks and nets
+unfoldable pub middle_text : List ℕ
+middle_text = codes "    )\n    (network_out\n"
 
 -- the lines behind the nets
 unfoldable pub back_text : List ℕ
 back_text = codes "    )\n  )\n)\n"
 
 -- the session of a design and its live items
-abbrev pub session_of : Design → List Live → List ℕ
-session_of d live = front_text d.name ++ (nets_text d.layers live 0 d.nets ++ back_text)
+unfoldable pub session_of : Parts → List Live → List ℕ
+session_of p live = front_text p.name ++ (stacks_text p live 0 p.stacks ++ (middle_text ++ (nets_text p live 0 p.nets ++ back_text)))

@@ -2,12 +2,19 @@
 #![tactic(auto)]
 
 mod fixed;
+mod library;
+mod lists;
 mod names;
 mod nets;
+mod pieces;
+mod points;
 mod session;
+mod vias;
 mod wires;
 
-pub use session::put_session;
+pub use pieces::SesPieces;
 
+#[cfg(test)]
+mod samples;
 #[cfg(test)]
 mod tests;

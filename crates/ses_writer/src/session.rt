@@ -1,15 +1,20 @@
 //! The whole text of a session.
-ghost use Rattle.std.specs.Prelude.{◌≡◌, ◌<◌, ◌^◌, ◌++◌, ◌∷◌, [], ℕ, List, OnOk, length};
-ghost use Rattle.std.specs.List.{AllByRecursion};
-ghost use Rattle.ses_writer.specs.Session.{layer_of_item, front_text, session_of};
+ghost use Rattle.std.specs.Prelude.{◌≡◌, ◌<◌, ◌^◌, ◌++◌, OnOk, IfOk, length};
+ghost use Rattle.board_rules.specs.Designs.{IsSound};
+ghost use Rattle.board_core.specs.Boards.{IsBoardOf};
+ghost use Rattle.ses_writer.specs.Session.{front_text, session_of};
 
-use crate::fixed::{put_back_text, put_design_open, put_routes_open, put_session_open};
+use crate::fixed::{
+    put_back_text, put_design_open, put_middle_text, put_routes_open, put_session_open,
+};
+use crate::library::put_stacks;
+use crate::lists::lists_of_board;
 use crate::names::put_name;
 use crate::nets::put_nets;
-use board_core::Live;
+use board_core::Board;
 use board_rules::Design;
 use layout_io::Bytes;
-use std::alloc::AllocError;
+use std::alloc::{AllocError, Global};
 
 #[tactic(auto, unfolding(crate::specs::Session::front_text))]
 fn put_front(out: &mut Bytes, name: &[u8]) -> Result<(), AllocError>
@@ -22,14 +27,20 @@ fn put_front(out: &mut Bytes, name: &[u8]) -> Result<(), AllocError>
     put_routes_open(out)
 }
 
-/// Puts the session of a design and its live items at the end. After an `Err`, for want of memory, a
-/// part of the text may stand there.
-pub fn put_session(out: &mut Bytes, design: &Design, live: &[Live]) -> Result<(), AllocError>
-    requires layers { AllByRecursion (λ l. layer_of_item l.item < length design.now.layers) live.now }
-    requires few { length design.now.nets < 2 ^ 32 }
-    ensures { OnOk result (out.new ≡ out.old ++ session_of design.now live.now) }
+/// The session text of a design and a board. Its one error is want of memory.
+#[tactic(auto, unfolding(crate::specs::Session::session_of))]
+pub fn session_text(alloc: Global, design: &Design, board: &Board) -> Result<Bytes, AllocError>
+    requires sound { IsSound design.now.parts }
+    requires fit { IsBoardOf design.now.parts board.now }
+    requires few { length board.now.live < 2 ^ 32 }
+    ensures { IfOk result (λ text. text ≡ session_of design.now.parts board.now.live) }
 {
-    put_front(out, design.name.as_slice())?;
-    put_nets(out, &design.layers, live, &design.nets)?;
-    put_back_text(out)
+    let lists = lists_of_board(alloc, design, board)?;
+    let mut out = Bytes::new(alloc);
+    put_front(&mut out, design.name().as_slice())?;
+    put_stacks(&mut out, design, &lists.marks)?;
+    put_middle_text(&mut out)?;
+    put_nets(&mut out, design, &lists.nets)?;
+    put_back_text(&mut out)?;
+    Ok(out)
 }
