@@ -23,13 +23,11 @@ no_design name d disk has none = none.2 d (subst (λ (b : List ℕ). IsDesign b 
 one_design : (name : List ℕ) (d e : Board) (disk : Disk) → HasDesign name d disk → HasDesign name e disk → d ≡ e
 one_design name d e disk p q = same_in_text q.0 d e (subst (λ (b : List ℕ). IsDesign b d) (same_found (bytes_of disk.files name) p.0 q.0 p.1 q.1) p.2) q.2
 
-no_bad_line : (name : List ℕ) (d : Board) (steps : List ScriptStep) (k : ℕ) (disk : Disk) → HasSteps name d steps disk → HasBadLine name d k disk → ⊥
-no_bad_line name d steps k disk has bad = not_bad d bad.0 steps k (subst (λ (b : List ℕ). IsScript d b steps) (same_found (bytes_of disk.files name) has.0 bad.0 has.1 bad.1) has.2) bad.2
+no_bad_line : (name : List ℕ) (steps : List ScriptStep) (k : ℕ) (disk : Disk) → HasSteps name steps disk → HasBadLine name k disk → ⊥
+no_bad_line name steps k disk has bad = not_bad bad.0 steps k (subst (λ (b : List ℕ). IsScript b steps) (same_found (bytes_of disk.files name) has.0 bad.0 has.1 bad.1) has.2) bad.2
 
-no_script_stop : (names : Names) (d e : Board) (steps : List ScriptStep) (k : ℕ) (disk : Disk) → HasInputs names d steps disk → HasDesign names.design e disk → HasBadLine names.script e k disk → ⊥
-no_script_stop names d e steps k disk inputs design bad =
-    let same : e ≡ d = one_design names.design e d disk design inputs.0 in
-    no_bad_line names.script d steps k disk inputs.1 (subst (λ (x : Board). HasBadLine names.script x k disk) same bad)
+no_script_stop : (names : Names) (d e : Board) (steps : List ScriptStep) (k : ℕ) (disk : Disk) → HasInputs names d steps disk → HasDesign names.design e disk → HasBadLine names.script k disk → ⊥
+no_script_stop names d e steps k disk inputs design bad = no_bad_line names.script steps k disk inputs.1 bad
 
 rose_later : (a b c : ℕ) → Rose a b → b ≤ c → Rose a c
 rose_later a b c rose later = omega arith

@@ -4,7 +4,7 @@ pub mod Complete
 pub mod Files
 pub mod Journals
 pub mod Loads
-pub mod Ready
+pub mod Pieces
 pub mod Runs
 pub mod Sinks
 pub mod Steps

@@ -4,7 +4,7 @@ use Rattle.std.specs.Prelude.{IfSome}
 use Rattle.layout_io.specs.Told.{Disk, Told, bytes_of}
 use Rattle.layout_io.specs.declared.stored.Stored.{Stored}
 use Rattle.board_rules.specs.declared.design.Design.{Design as Board}
-use Rattle.board_rules.specs.Needs.{IsFitDesign}
+use Rattle.board_rules.specs.Designs.{IsSound}
 use Rattle.session_wire.specs.declared.steps.ScriptStep.{ScriptStep}
 use Rattle.dsn_reader.specs.Form.{IsDesign}
 use Rattle.layout_server.specs.Outside.{IsFound, HasRead, HasMore, SameFiles}
@@ -21,12 +21,8 @@ pub none_given : (found : Found) (bytes text : List ℕ) → found ≡ Whole byt
 none_given found bytes text is same none = subst GivesNone (ap Whole same ∙ sym is) none
 
 -- a design that is spelled is of today's form
-pub today_of : (text : List ℕ) (d : Board) → IsDesign text d → IsFitDesign d → IsToday d
-today_of text d is fit = record {
-  fit = fit;
-  one_layer = ap length is.spells.of.layers;
-  nets = omega (arith, is.spells.form.most, ap length is.spells.of.nets);
-}
+pub today_of : (text : List ℕ) (d : Board) → IsDesign text d → IsSound d.parts → IsToday d
+today_of text d is sound = record { sound = sound; none = is.spells.states.of.items }
 
 pub told_design : (a b : Option Disk) (name : List ℕ) (most : ℕ) (found : Found) (design : Board) → Told a b (IsFound name most found) → GivesDesign found design → Told a b (λ d e. HasDesign name design d)
 told_design a b name most (Whole bytes) design told given = told_weaker a b (HasRead name bytes) (λ d e. HasDesign name design d) told (λ d e r. (bytes, r.bytes_are, given))
@@ -45,42 +41,42 @@ design_stop a b name found Write told cause = absurd cause
 design_stop a b name found (Script k) told cause = absurd cause
 design_stop a b name found Memory told cause = tt
 
-pub told_steps : (a b : Option Disk) (name : List ℕ) (most : ℕ) (found : Found) (design : Board) (steps : List ScriptStep) → Told a b (IsFound name most found) → GivesSteps design found steps
-    → Told a b (λ d e. HasSteps name design steps d)
-told_steps a b name most (Whole text) design steps told given = told_weaker a b (HasRead name text) (λ d e. HasSteps name design steps d) told (λ d e r. (text, r.bytes_are, given))
-told_steps a b name most Long design steps told given = absurd given
+pub told_steps : (a b : Option Disk) (name : List ℕ) (most : ℕ) (found : Found) (steps : List ScriptStep) → Told a b (IsFound name most found) → GivesSteps found steps
+    → Told a b (λ d e. HasSteps name steps d)
+told_steps a b name most (Whole text) steps told given = told_weaker a b (HasRead name text) (λ d e. HasSteps name steps d) told (λ d e r. (text, r.bytes_are, given))
+told_steps a b name most Long steps told given = absurd given
 
-bad_line : (a b : Option Disk) (name : List ℕ) (found : Found) (design : Board) (k : ℕ) → Told a b (IsFound name 67108864 found) → GivesBad design found k → IfSome a (HasBadLine name design k)
-bad_line None b name found design k told given = tt
-bad_line (Some d) None name found design k told given = absurd told
-bad_line (Some d) (Some e) name (Whole text) design k told given = (text, told.bytes_are, given)
-bad_line (Some d) (Some e) name Long design k told given = (told.bytes, told.bytes_are, inl (told.more, given))
+bad_line : (a b : Option Disk) (name : List ℕ) (found : Found) (k : ℕ) → Told a b (IsFound name 67108864 found) → GivesBad found k → IfSome a (HasBadLine name k)
+bad_line None b name found k told given = tt
+bad_line (Some d) None name found k told given = absurd told
+bad_line (Some d) (Some e) name (Whole text) k told given = (text, told.bytes_are, given)
+bad_line (Some d) (Some e) name Long k told given = (told.bytes, told.bytes_are, inl (told.more, given))
 
-pub script_stop : (a b : Option Disk) (name : List ℕ) (found : Found) (design : Board) (stop : Stop) → Told a b (IsFound name 67108864 found) → ScriptCause design found stop → ScriptStop name design a stop
-script_stop a b name found design Design told cause = absurd cause
-script_stop a b name found design Read told cause = absurd cause
-script_stop a b name found design Write told cause = absurd cause
-script_stop a b name found design (Script k) told cause = bad_line a b name found design k told cause
-script_stop a b name found design Memory told cause = tt
+pub script_stop : (a b : Option Disk) (name : List ℕ) (found : Found) (stop : Stop) → Told a b (IsFound name 67108864 found) → ScriptCause found stop → ScriptStop name a stop
+script_stop a b name found Design told cause = absurd cause
+script_stop a b name found Read told cause = absurd cause
+script_stop a b name found Write told cause = absurd cause
+script_stop a b name found (Script k) told cause = bad_line a b name found k told cause
+script_stop a b name found Memory told cause = tt
 
 same_bytes : (name text : List ℕ) (d e : Disk) → e.files ≡ d.files → bytes_of e.files name ≡ Some text → bytes_of d.files name ≡ Some text
 same_bytes name text d e same is = ap (λ (files : List Stored). bytes_of files name) (sym same) ∙ is
 
 -- the script was read behind the design, of which no file was changed
-pub both_inputs : (a b c : Option Disk) (first second : List ℕ) (design : Board) (steps : List ScriptStep) → Told a b (λ d e. HasDesign first design d) → Told a b SameFiles → Told b c (λ d e. HasSteps second design steps d)
-    → Told a c (λ d e. HasDesign first design d × HasSteps second design steps d)
+pub both_inputs : (a b c : Option Disk) (first second : List ℕ) (design : Board) (steps : List ScriptStep) → Told a b (λ d e. HasDesign first design d) → Told a b SameFiles → Told b c (λ d e. HasSteps second steps d)
+    → Told a c (λ d e. HasDesign first design d × HasSteps second steps d)
 both_inputs None b c first second design steps p q r = tt
 both_inputs (Some d) None c first second design steps p q r = absurd p
 both_inputs (Some d) (Some e) None first second design steps p q r = absurd r
 both_inputs (Some d) (Some e) (Some f) first second design steps p q r = (p, (r.0, same_bytes second r.0 d e q r.1, r.2))
 
-behind : (a b : Option Disk) (first second : List ℕ) (design : Board) (k : ℕ) → Told a b (λ d e. HasDesign first design d) → Told a b SameFiles → IfSome b (HasBadLine second design k)
-    → IfSome a (λ disk. HasDesign first design disk × HasBadLine second design k disk)
+behind : (a b : Option Disk) (first second : List ℕ) (design : Board) (k : ℕ) → Told a b (λ d e. HasDesign first design d) → Told a b SameFiles → IfSome b (HasBadLine second k)
+    → IfSome a (λ disk. HasDesign first design disk × HasBadLine second k disk)
 behind None b first second design k p q r = tt
 behind (Some d) None first second design k p q r = absurd p
 behind (Some d) (Some e) first second design k p q r = (p, (r.0, same_bytes second r.0 d e q r.1, r.2))
 
-pub script_stop_behind : (a b : Option Disk) (first second : List ℕ) (design : Board) (stop : Stop) → Told a b (λ d e. HasDesign first design d) → Told a b SameFiles → ScriptStop second design b stop → LoadStop first second a stop
+pub script_stop_behind : (a b : Option Disk) (first second : List ℕ) (design : Board) (stop : Stop) → Told a b (λ d e. HasDesign first design d) → Told a b SameFiles → ScriptStop second b stop → LoadStop first second a stop
 script_stop_behind a b first second design Design p q cause = absurd cause
 script_stop_behind a b first second design Read p q cause = tt
 script_stop_behind a b first second design Write p q cause = absurd cause

@@ -1,82 +1,112 @@
 -- A request has one answer, and steps have one run.
-use Rattle.std.proofs.Common.{◌≡◌, ℕ, ◌+◌, List, [], ◌∷◌, ◌++◌, length, Option, Some, None, refl, sym, ap, subst, ◌∙◌}
-use Rattle.std.specs.List.{AllByRecursion}
+use Rattle.std.proofs.Common.{◌≡◌, ℕ, ◌+◌, List, [], ◌∷◌, ◌++◌, refl, sym, ap, subst, ◌∙◌, inl, inr}
+use Rattle.std.specs.Prelude.{Option, Some, None, IsSome}
 use Rattle.board_items.specs.declared.items.Item.{Item}
-use Rattle.board_items.specs.declared.items.ItemId.{ItemId}
 use Rattle.board_items.specs.declared.requests.Add.{Add}
+use Rattle.board_items.specs.declared.requests.Add.TheVariants as adds
 use Rattle.board_items.specs.declared.requests.Request.{Request}
-use Rattle.board_items.specs.declared.requests.Request.TheVariants.{Edit}
-use Rattle.board_items.specs.declared.history.Act.TheVariants.{Ask}
+use Rattle.board_items.specs.declared.requests.Request.TheVariants as requests
 use Rattle.board_items.specs.declared.history.Entry.{Entry}
-use Rattle.board_items.specs.declared.history.Reply.{Reply}
-use Rattle.board_items.specs.declared.history.Reply.TheVariants.{Done, No}
 use Rattle.board_items.specs.declared.history.Why.{Why}
-use Rattle.board_items.specs.declared.history.Why.TheVariants.{Clash}
+use Rattle.board_items.specs.declared.history.Reply.{Reply}
+use Rattle.board_items.specs.declared.history.Reply.TheVariants.{Done, No, Full, Left}
 use Rattle.board_items.specs.Adds.{item_of_add}
 use Rattle.board_rules.specs.declared.design.Design.{Design}
-use Rattle.board_rules.specs.Needs.{KeepsNeed}
-use Rattle.board_core.specs.declared.board.Live.{Live}
+use Rattle.board_rules.specs.declared.design.Parts.{Parts}
+use Rattle.board_rules.specs.Reasons.{First, Then, Nothing, IsAddReason, IsAddsReason, IsOwnReason, IsLayerReason, IsClientReason, IsStaticReason}
+use Rattle.board_rules.specs.Reasons as rules
+use Rattle.board_core.specs.declared.live.Live.{Live}
 use Rattle.board_core.specs.declared.board.Board.{Board}
-use Rattle.board_core.specs.Lists.{IsFirstNot}
-use Rattle.board_core.specs.Answers.{IsAnswer, IsAnswerToAdds, IsFirstNear, KeepsAll}
-use Rattle.board_core.specs.Journals.{IsAnswered, last_board}
-use Rattle.board_core.proofs.Firsts.{not_all}
+use Rattle.board_core.specs.Lives.{without}
+use Rattle.board_core.specs.Boards.{last_board}
+use Rattle.board_core.specs.Answers.{IsDeleteReason, IsDeletesReason, IsNearReason, IsClashReason, IsAnswer}
+use Rattle.board_core.specs.Journals.{IsAnswered, entry_of}
 use Rattle.session_wire.specs.declared.steps.ScriptStep.{ScriptStep}
-use Rattle.layout_server.specs.declared.master.Answered.{Answered}
 use Rattle.layout_server.specs.Scripts.{client_of, request_of}
 use Rattle.layout_server.specs.Replays.{Serves}
+use Rattle.layout_server.specs.declared.master.Answered.{Answered}
 
--- two fronts that hold, each with one behind it that fails, are the same front of a list
-split_same : {T : Type 0} (P : T → Type 0) (a b : List T) (x y : T) (r s : List T) → AllByRecursion P a → AllByRecursion P b → (P x → ⊥) → (P y → ⊥) → a ++ x ∷ r ≡ b ++ y ∷ s → (a ≡ b) × (x ≡ y)
-split_same P [] [] x y r s p q f g e = let h : x ≡ y = cc in (refl, h)
-split_same P [] (b ∷ bs) x y r s p q f g e = let h : b ≡ x = cc in absurd (f (subst P h q.0))
-split_same P (a ∷ others) [] x y r s p q f g e = let h : a ≡ y = cc in absurd (g (subst P h p.0))
-split_same P (a ∷ others) (b ∷ bs) x y r s p q f g e =
-    let head : a ≡ b = cc in
-    let tail : others ++ x ∷ r ≡ bs ++ y ∷ s = cc in
-    let same = split_same P others bs x y r s p.1 q.1 f g tail in
-    (cc, same.1)
+-- at most one reason is given
+abbrev IsOne : (Option Why → Type 0) → Type 0
+IsOne R = (w v : Option Why) → R w → R v → w ≡ v
 
-first_same : {T : Type 0} (P : T → Type 0) (xs : List T) (n m : ℕ) (x y : T) → IsFirstNot P xs n x → IsFirstNot P xs m y → (n ≡ m) × (x ≡ y)
-first_same P xs n m x y f g =
-    let same = split_same P f.front g.front x y f.rest g.rest f.holds g.holds f.fails g.fails (sym f.parts ∙ g.parts) in
-    (f.place ∙ ap length same.0 ∙ sym g.place, same.1)
+nothing : IsOne Nothing
+nothing w v f g = f ∙ sym g
 
-near_same : (d : Design) (item : Item) (live : List Live) (i j : ItemId) → IsFirstNear d item live i → IsFirstNear d item live j → i ≡ j
-near_same d item live i j f g =
-    let same = first_same (λ (l : Live). KeepsNeed d item l.item) live f.0 g.0 f.1 g.1 f.2 g.2 in
-    sym f.3 ∙ ap (λ (l : Live). l.id) same.1 ∙ g.3
+first : (P : Type 0) (reason : Why) (rest : Option Why → Type 0) → IsOne rest → IsOne (First P reason rest)
+first P reason rest h w v (inl f) (inl g) = f.1 ∙ sym g.1
+first P reason rest h w v (inl f) (inr g) = absurd (g.0 f.0)
+first P reason rest h w v (inr f) (inl g) = absurd (f.0 g.0)
+first P reason rest h w v (inr f) (inr g) = h w v f.1 g.1
 
-clash_same : (d : Design) (b : Board) (adds : List Add) (a c : ℕ) (i j : ItemId) → IsAnswerToAdds d b adds (Some (Clash a i)) → IsAnswerToAdds d b adds (Some (Clash c j)) → (a ≡ c) × (i ≡ j)
-clash_same d b adds a c i j f g =
-    let same = first_same (λ (x : Add). KeepsAll d b.live (item_of_add x)) adds f.0 g.0 f.1 g.1 f.2 g.2 in
-    let near : IsFirstNear d (item_of_add g.1) b.live i = subst (λ (x : Add). IsFirstNear d (item_of_add x) b.live i) same.1 f.4 in
-    (f.3 ∙ ap (λ (n : ℕ). n + 1) same.0 ∙ sym g.3, near_same d (item_of_add g.1) b.live i j near g.4)
+not_both : (w : Option Why) → IsSome w → w ≡ None → ⊥
+not_both w some none = absurd cc
 
-why_same : (a c : ℕ) (i j : ItemId) → a ≡ c → i ≡ j → Clash a i ≡ Clash c j
-why_same a c i j e f = cc
+after_that : (one rest : Option Why → Type 0) → IsOne one → IsOne rest → IsOne (Then one rest)
+after_that one rest h k w v (inl f) (inl g) = h w v f.1 g.1
+after_that one rest h k w v (inl f) (inr g) = absurd (not_both w f.0 (h w None f.1 g.0))
+after_that one rest h k w v (inr f) (inl g) = absurd (not_both v g.0 (h v None g.1 f.0))
+after_that one rest h k w v (inr f) (inr g) = k w v f.1 g.1
 
-adds_same : (d : Design) (b : Board) (adds : List Add) (o p : Option Why) → IsAnswerToAdds d b adds o → IsAnswerToAdds d b adds p → o ≡ p
-adds_same d b adds None None f g = refl
-adds_same d b adds None (Some (Clash c j)) f g = absurd (not_all (λ (x : Add). KeepsAll d b.live (item_of_add x)) adds g.0 g.1 g.2 f)
-adds_same d b adds (Some (Clash a i)) None f g = absurd (not_all (λ (x : Add). KeepsAll d b.live (item_of_add x)) adds f.0 f.1 f.2 g)
-adds_same d b adds (Some (Clash a i)) (Some (Clash c j)) f g =
-    let same = clash_same d b adds a c i j f g in
-    ap Some (why_same a c i j same.0 same.1)
+-- ---- reasons that don't depend on the board
 
-answer_same : (d : Design) (b : Board) (r : Request) (o p : Option Why) → IsAnswer d b r o → IsAnswer d b r p → o ≡ p
-answer_same d b (Edit deletes adds) o p f g = adds_same d b adds o p f g
+add_reason : (p : Parts) (a : ℕ) (add : Add) → IsOne (IsAddReason p a add)
+add_reason p a (adds.Wire net layer width points) = first _ _ _ (first _ _ _ (first _ _ _ (first _ _ _ nothing)))
+add_reason p a (adds.Via net padstack place) = first _ _ _ (first _ _ _ (first _ _ _ (first _ _ _ nothing)))
 
-answered_same : (d : Design) (j : List Entry) (client : ℕ) (r : Request) (a b : Reply) (m n : List Entry) → IsAnswered d j client r a m → IsAnswered d j client r b n → (a ≡ b) × (m ≡ n)
-answered_same d j client r (Done k) (Done l) m n f g =
+adds_reason : (p : Parts) (a : ℕ) (all : List Add) → IsOne (IsAddsReason p a all)
+adds_reason p a [] = nothing
+adds_reason p a (add ∷ rest) = after_that _ _ (add_reason p a add) (adds_reason p (a + 1) rest)
+
+own_near : (p : Parts) (a : ℕ) (item : Item) (b : ℕ) (all : List Add) → IsOne (rules.IsNearReason p a item b all)
+own_near p a item b [] = nothing
+own_near p a item b (other ∷ rest) = first _ _ _ (own_near p a item (b + 1) rest)
+
+own_reason : (p : Parts) (a : ℕ) (all : List Add) → IsOne (IsOwnReason p a all)
+own_reason p a [] = nothing
+own_reason p a (add ∷ rest) = after_that _ _ (own_near p a (item_of_add add) (a + 1) rest) (own_reason p (a + 1) rest)
+
+static_reason : (p : Parts) (clients : ℕ) (deletes : List ℕ) (all : List Add) → IsOne (IsStaticReason p clients (requests.Edit deletes all))
+static_reason p clients deletes all = first _ _ _ (after_that _ _ (adds_reason p 1 all) (own_reason p 1 all))
+
+-- ---- reasons of a board
+
+deletes_reason : (live : List Live) (before ids : List ℕ) → IsOne (IsDeletesReason live before ids)
+deletes_reason live before [] = nothing
+deletes_reason live before (id ∷ rest) = after_that _ _ (first _ _ _ (first _ _ _ (first _ _ _ nothing))) (deletes_reason live (before ++ id ∷ []) rest)
+
+near_reason : (p : Parts) (a : ℕ) (item : Item) (live : List Live) → IsOne (IsNearReason p a item live)
+near_reason p a item [] = nothing
+near_reason p a item (l ∷ rest) = first _ _ _ (near_reason p a item rest)
+
+clash_reason : (p : Parts) (live : List Live) (a : ℕ) (all : List Add) → IsOne (IsClashReason p live a all)
+clash_reason p live a [] = nothing
+clash_reason p live a (add ∷ rest) = after_that _ _ (near_reason p a (item_of_add add) live) (clash_reason p live (a + 1) rest)
+
+answer_same : (p : Parts) (b : Board) (clients : ℕ) (r : Request) → IsOne (IsAnswer p b clients r)
+answer_same p b clients (requests.Edit deletes all) w v f g = after_that _ _ (static_reason p clients deletes all) (after_that _ _ (deletes_reason b.live [] deletes) (clash_reason p (without deletes b.live) 1 all)) w v f g
+answer_same p b clients (requests.Reserve id) w v f g = absurd f
+answer_same p b clients (requests.Release id) w v f g = absurd f
+answer_same p b clients (requests.Fence layers area entitled) w v f g = absurd f
+answer_same p b clients (requests.Unfence fence) w v f g = absurd f
+answer_same p b clients (requests.Entitle fence client) w v f g = absurd f
+
+answered_same : (p : Parts) (clients : ℕ) (j : List Entry) (client : ℕ) (r : Request) (a b : Reply) (m n : List Entry) → IsAnswered p clients j client r a m → IsAnswered p clients j client r b n → (a ≡ b) × (m ≡ n)
+answered_same p clients j client r (Done k) (Done l) m n f g =
     let number : k ≡ l = f.1 ∙ sym g.1 in
-    (cc, f.2 ∙ ap (λ (x : ℕ). j ++ record { number = x; client = client; act = Ask r } ∷ []) number ∙ sym g.2)
-answered_same d j client r (No w) (No v) m n f g =
-    let both : Some w ≡ Some v = answer_same d (last_board j) r (Some w) (Some v) f.0 g.0 in
+    (cc, f.2 ∙ ap (λ (x : ℕ). j ++ entry_of x client r ∷ []) number ∙ sym g.2)
+answered_same p clients j client r (No w) (No v) m n f g =
+    let both : Some w ≡ Some v = answer_same p (last_board p j) clients r (Some w) (Some v) f.0 g.0 in
     let why : w ≡ v = cc in
     (cc, f.1 ∙ sym g.1)
-answered_same d j client r (Done k) (No v) m n f g = let no_ : None ≡ Some v = answer_same d (last_board j) r None (Some v) f.0 g.0 in absurd cc
-answered_same d j client r (No w) (Done l) m n f g = let no_ : Some w ≡ None = answer_same d (last_board j) r (Some w) None f.0 g.0 in absurd cc
+answered_same p clients j client r (Done k) (No v) m n f g = let no_ : None ≡ Some v = answer_same p (last_board p j) clients r None (Some v) f.0 g.0 in absurd cc
+answered_same p clients j client r (No w) (Done l) m n f g = let no_ : Some w ≡ None = answer_same p (last_board p j) clients r (Some w) None f.0 g.0 in absurd cc
+answered_same p clients j client r Full b m n f g = absurd f
+answered_same p clients j client r (Left k) b m n f g = absurd f
+answered_same p clients j client r (Done k) Full m n f g = absurd g
+answered_same p clients j client r (Done k) (Left l) m n f g = absurd g
+answered_same p clients j client r (No w) Full m n f g = absurd g
+answered_same p clients j client r (No w) (Left l) m n f g = absurd g
 
 abbrev answered : ℕ → Reply → Answered
 answered c r = record { client = c; reply = r }
@@ -91,7 +121,7 @@ one_run d old [] (a ∷ others) b j k f g = absurd f
 one_run d old (s ∷ ss) [] b j k f g = absurd f
 one_run d old (s ∷ ss) (a ∷ others) [] j k f g = absurd g
 one_run d old (s ∷ ss) (a ∷ others) (b ∷ bs) j k f g =
-    let first = answered_same d old (client_of s) (request_of s) a.reply b.reply f.1 g.1 f.2 g.2 in
+    let first = answered_same d.parts 8 old (client_of s) (request_of s) a.reply b.reply f.1 g.1 f.2 g.2 in
     let head : a ≡ b = same_answered a b (f.0 ∙ sym g.0) first.0 in
     let later : Serves d f.1 ss bs k = subst (λ (m : List Entry). Serves d m ss bs k) (sym first.1) g.3 in
     let rest = one_run d f.1 ss others bs j k f.3 later in

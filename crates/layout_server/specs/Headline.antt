@@ -23,16 +23,16 @@ abbrev pub HasNoDesign : List ℕ → Disk → Type 0
 HasNoDesign name disk = (bytes : List ℕ) × (bytes_of disk.files name ≡ Some bytes) × ((d : Board) → IsDesign bytes d → ⊥)
 
 -- the file under the name is the lines of these steps
-abbrev pub HasSteps : List ℕ → Board → List ScriptStep → Disk → Type 0
-HasSteps name d steps disk = (text : List ℕ) × (bytes_of disk.files name ≡ Some text) × IsScript d text steps
+abbrev pub HasSteps : List ℕ → List ScriptStep → Disk → Type 0
+HasSteps name steps disk = (text : List ℕ) × (bytes_of disk.files name ≡ Some text) × IsScript text steps
 
 -- the file under the name is no script, and this is told
-abbrev pub HasBadLine : List ℕ → Board → ℕ → Disk → Type 0
-HasBadLine name d k disk = (text : List ℕ) × (bytes_of disk.files name ≡ Some text) × IsBad d text k
+abbrev pub HasBadLine : List ℕ → ℕ → Disk → Type 0
+HasBadLine name k disk = (text : List ℕ) × (bytes_of disk.files name ≡ Some text) × IsBad text k
 
 -- both files have their readings
 abbrev pub HasInputs : Names → Board → List ScriptStep → Disk → Type 0
-HasInputs names d steps disk = HasDesign names.design d disk × HasSteps names.script d steps disk
+HasInputs names d steps disk = HasDesign names.design d disk × HasSteps names.script steps disk
 
 -- the session file has these bytes, and other files stayed
 abbrev pub HasSession : List ℕ → List ℕ → Disk → Disk → Type 0
@@ -88,7 +88,7 @@ abbrev pub StopCause : Names → Option Disk → Stop → Type 0
 StopCause names old Design = IfSome old (HasNoDesign names.design)
 StopCause names old Read = Unit {0}
 StopCause names old Write = (d : Board) × (steps : List ScriptStep) × IfSome old (HasInputs names d steps)
-StopCause names old (Script k) = (d : Board) × IfSome old (λ disk. HasDesign names.design d disk × HasBadLine names.script d k disk)
+StopCause names old (Script k) = (d : Board) × IfSome old (λ disk. HasDesign names.design d disk × HasBadLine names.script k disk)
 StopCause names old Memory = Unit {0}
 
 -- a line is written, whole unless the sink's count rose or a write met want of memory

@@ -9,7 +9,7 @@ ghost use Rattle.layout_server.specs.declared.master.Answered.{Answered};
 
 /// A text is one script at most.
 pub fn one_script()
-    ensures { (d : Design) (text : List ℕ) (a : List ScriptStep) (b : List ScriptStep) → IsScript d text a → IsScript d text b → a ≡ b }
+    ensures { (text : List ℕ) (a : List ScriptStep) (b : List ScriptStep) → IsScript text a → IsScript text b → a ≡ b }
 {}
 
 /// Steps have one run at most.
@@ -19,5 +19,5 @@ pub fn one_run()
 
 /// A script has no bad line.
 pub fn a_script_is_not_bad()
-    ensures { (d : Design) (text : List ℕ) (steps : List ScriptStep) (k : ℕ) → IsScript d text steps → IsBad d text k → ⊥ }
+    ensures { (text : List ℕ) (steps : List ScriptStep) (k : ℕ) → IsScript text steps → IsBad text k → ⊥ }
 {}

@@ -4,7 +4,7 @@ ghost use Rattle.std.specs.List.{AllByRecursion};
 ghost use Rattle.layout_io.specs.Told.{Told};
 ghost use Rattle.layout_server.specs.Words.{Asked};
 ghost use Rattle.layout_server.specs.Outside.{IsFound, SameFiles};
-ghost use Rattle.layout_server.specs.Scripts.{IsServed};
+ghost use Rattle.session_wire.specs.Steps.{IsStep};
 ghost use Rattle.layout_server.specs.Causes.{ReadCause};
 ghost use Rattle.layout_server.specs.Headline.{HasDesign, HasSteps};
 ghost use Rattle.layout_server.specs.Loads.{FileCause, DesignCause, ScriptCause, DesignStop, ScriptStop, LoadStop, GivesDesign, GivesSteps, IsToday, IsLoaded};
@@ -63,15 +63,15 @@ fn design_of(alloc: Global, found: &Found) -> Result<Design, Stop>
 }
 
 // The steps that were found.
-fn steps_of(alloc: Global, design: &Design, found: &Found) -> Result<ScriptSteps, Stop>
-    ensures ok { IfOk result (GivesSteps design.now found.now) }
-    ensures served { IfOk result (AllByRecursion (IsServed design.now)) }
+fn steps_of(alloc: Global, found: &Found) -> Result<ScriptSteps, Stop>
+    ensures ok { IfOk result (GivesSteps found.now) }
+    ensures formed { IfOk result (AllByRecursion IsStep) }
     ensures few { IfOk result (λ steps. length steps ≤ 500) }
-    ensures cause { IfErr result (ScriptCause design.now found.now) }
+    ensures cause { IfErr result (ScriptCause found.now) }
 {
     match found {
         Found::Long => Err(Stop::Script(0)),
-        Found::Whole(bytes) => match read_script(alloc, design, bytes.as_slice()) {
+        Found::Whole(bytes) => match read_script(alloc, bytes.as_slice()) {
             Ok(steps) => Ok(steps),
             Err(ScriptFault::Line(line)) => Err(Stop::Script(line)),
             Err(ScriptFault::Memory) => Err(Stop::Memory),
@@ -97,16 +97,11 @@ fn load_design<F: Files>(alloc: Global, files: &mut F, name: &str) -> Result<Des
 
 // The steps of the script under the name.
 #[tactic(auto, using(crate::proofs::Loads::told_steps, crate::proofs::Loads::script_stop))]
-fn load_script<F: Files>(
-    alloc: Global,
-    files: &mut F,
-    design: &Design,
-    name: &str,
-) -> Result<ScriptSteps, Stop>
-    ensures ok { IfOk result (λ steps. Told (F.disk files.old) (F.disk files.new) (λ d e. HasSteps name.now design.now steps d)) }
-    ensures served { IfOk result (AllByRecursion (IsServed design.now)) }
+fn load_script<F: Files>(alloc: Global, files: &mut F, name: &str) -> Result<ScriptSteps, Stop>
+    ensures ok { IfOk result (λ steps. Told (F.disk files.old) (F.disk files.new) (λ d e. HasSteps name.now steps d)) }
+    ensures formed { IfOk result (AllByRecursion IsStep) }
     ensures few { IfOk result (λ steps. length steps ≤ 500) }
-    ensures cause { IfErr result (ScriptStop name.now design.now (F.disk files.old)) }
+    ensures cause { IfErr result (ScriptStop name.now (F.disk files.old)) }
     ensures kept { Told (F.disk files.old) (F.disk files.new) SameFiles }
     ensures asked { Asked (name.now ∷ []) (F.asked files.old) (F.asked files.new) }
     ensures asked_ok { OnOk result (F.asked files.new ≡ F.asked files.old ++ name.now ∷ []) }
@@ -114,7 +109,7 @@ fn load_script<F: Files>(
     ensures write { F.write_faults files.new ≡ F.write_faults files.old }
 {
     let found = read_file(alloc, files, name, SCRIPT_LIMIT)?;
-    steps_of(alloc, design, &found)
+    steps_of(alloc, &found)
 }
 
 /// Reads the design and the script.
@@ -125,7 +120,7 @@ pub fn load<F: Files>(
     design: &str,
     script: &str,
 ) -> Result<Loaded, Stop>
-    ensures inputs { IfOk result (λ l. Told (F.disk files.old) (F.disk files.new) (λ d e. HasDesign design.now l.design d × HasSteps script.now l.design l.steps d)) }
+    ensures inputs { IfOk result (λ l. Told (F.disk files.old) (F.disk files.new) (λ d e. HasDesign design.now l.design d × HasSteps script.now l.steps d)) }
     ensures loaded { IfOk result IsLoaded }
     ensures cause { IfErr result (LoadStop design.now script.now (F.disk files.old)) }
     ensures kept { Told (F.disk files.old) (F.disk files.new) SameFiles }
@@ -135,6 +130,6 @@ pub fn load<F: Files>(
     ensures write { F.write_faults files.new ≡ F.write_faults files.old }
 {
     let design = load_design(alloc, files, design)?;
-    let steps = load_script(alloc, files, &design, script)?;
+    let steps = load_script(alloc, files, script)?;
     Ok(Loaded { design, steps })
 }

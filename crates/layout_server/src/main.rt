@@ -1,7 +1,6 @@
 //! The layout server's program: `replay <dsn> <script> <ses>`.
 #![tactic(auto)]
 
-mod form;
 mod laws;
 mod load;
 mod master;

@@ -1,11 +1,12 @@
 //! The serial master: each request is answered at the journal as it is then.
 ghost use Rattle.std.specs.Prelude.{◌≡◌, ◌+◌, ◌<◌, ◌≤◌, ◌^◌, [], ◌∷◌, IfOk, OnOk, length};
 ghost use Rattle.std.specs.List.{AllByRecursion};
-ghost use Rattle.board_rules.specs.Needs.{IsFitDesign};
-ghost use Rattle.board_core.specs.Journals.{IsAnswered, last_board};
-ghost use Rattle.layout_server.specs.Scripts.{IsServed, client_of, request_of};
-ghost use Rattle.layout_server.specs.Masters.{IsMaster, IsReady, HasAccepted, IsBegun};
-ghost use Rattle.layout_server.specs.Replays.{Serves, HasAnswered};
+ghost use Rattle.board_items.specs.Formed.{IsFormed, IsEdit};
+ghost use Rattle.board_rules.specs.Designs.{IsSound};
+ghost use Rattle.board_rules.specs.FitAdds.{HasFitAdds};
+ghost use Rattle.session_wire.specs.Steps.{IsStep};
+ghost use Rattle.layout_server.specs.Masters.{IsMaster, HasAccepted, IsBegun};
+ghost use Rattle.layout_server.specs.Replays.{Serves, HasReplied, HasAnswered};
 
 use board_core::{Board, slow_answer};
 use board_items::{Act, Entries, Entry, Reply, Request};
@@ -41,17 +42,20 @@ pub struct Run {
 }
 
 // Puts an accepted request at the journal's end.
-#[tactic(auto, using(crate::proofs::Journals::accepted))]
+#[tactic(auto, using(crate::proofs::Journals::accepted, crate::proofs::Journals::few_numbers))]
 fn accept(
     alloc: Global,
+    design: &Design,
     master: &mut Master,
     client: u8,
     request: &Request,
 ) -> Result<u32, AllocError>
-    requires master { IsMaster master.old }
-    requires ready { IsReady request.now }
+    requires master { IsMaster design.now master.old }
+    requires formed { IsFormed request.now }
+    requires edit { IsEdit request.now }
+    requires fit { HasFitAdds design.now.parts request.now }
     requires few { length master.old.journal < 500 }
-    ensures { IfOk result (λ number. HasAccepted master.old client request.now number master.new) }
+    ensures { IfOk result (λ number. HasAccepted design.now master.old client request.now number master.new) }
 {
     let number = master.journal.len() as u32 + 1;
     let act = Act::Ask {
@@ -68,7 +72,31 @@ fn accept(
 }
 
 // Answers one request at the journal as it is.
-#[tactic(auto, using(crate::proofs::Ready::ready_of, crate::proofs::Ready::few_adds, crate::proofs::Ready::kept_fit))]
+fn answer<L: Ledger>(
+    alloc: Global,
+    design: &Design,
+    master: &mut Master,
+    client: u8,
+    request: &Request,
+    steps: &mut Steps<L>,
+) -> Result<Reply, AllocError>
+    requires design { IsSound design.now.parts }
+    requires master { IsMaster design.now master.old }
+    requires formed { IsFormed request.now }
+    requires edit { IsEdit request.now }
+    requires few { length master.old.journal < 500 }
+    ensures { IfOk result (λ reply. HasReplied design.now master.old client request.now master.new reply) }
+{
+    match slow_answer(design, &master.board, CLIENTS, client, request, steps) {
+        Some(why) => Ok(Reply::No { why }),
+        None => {
+            let number = accept(alloc, design, master, client, request)?;
+            Ok(Reply::Done { number })
+        }
+    }
+}
+
+// Answers one step at the journal as it is.
 fn serve_one<L: Ledger>(
     alloc: Global,
     design: &Design,
@@ -76,22 +104,16 @@ fn serve_one<L: Ledger>(
     step: &ScriptStep,
     steps: &mut Steps<L>,
 ) -> Result<Answered, AllocError>
-    requires design { IsFitDesign design.now }
-    requires master { IsMaster master.old }
-    requires served { IsServed design.now step.now }
+    requires design { IsSound design.now.parts }
+    requires master { IsMaster design.now master.old }
+    requires formed { IsStep step.now }
     requires few { length master.old.journal < 500 }
     ensures { IfOk result (HasAnswered design.now master.old step.now master.new) }
 {
     match step {
         ScriptStep::Do { client, request } => {
             let client = *client;
-            let why = slow_answer(design, &master.board, CLIENTS, client, request, steps);
-            let reply = match why {
-                Some(why) => Reply::No { why },
-                None => Reply::Done {
-                    number: accept(alloc, master, client, request)?,
-                },
-            };
+            let reply = answer(alloc, design, master, client, request, steps)?;
             Ok(Answered { client, reply })
         }
     }
@@ -105,12 +127,13 @@ fn serve_steps<L: Ledger>(
     script: &[ScriptStep],
     steps: &mut Steps<L>,
 ) -> Result<(), AllocError>
-    requires design { IsFitDesign design.now }
-    requires empty { IsBegun run.old }
-    requires served { AllByRecursion (IsServed design.now) script.now }
+    requires design { IsSound design.now.parts }
+    requires empty { IsBegun design.now run.old }
+    requires formed { AllByRecursion IsStep script.now }
     requires few { length script.now ≤ 500 }
     ensures run { OnOk result (Serves design.now [] script.now run.new.answers run.new.master.journal) }
-    ensures master { OnOk result (IsMaster run.new.master) }
+    ensures master { OnOk result (IsMaster design.now run.new.master) }
+    ensures short { OnOk result (length run.new.master.journal ≤ length script.now) }
 {
     for step in script {
         let answered = serve_one(alloc, design, &mut run.master, step, steps)?;
@@ -120,6 +143,7 @@ fn serve_steps<L: Ledger>(
 }
 
 /// Answers a script's steps one after another, from the empty journal on, with a count of its own.
+#[tactic(auto, using(crate::proofs::Journals::begun))]
 pub fn serve<L: Ledger>(
     alloc: Global,
     design: &Design,
@@ -129,17 +153,19 @@ pub fn serve<L: Ledger>(
     requires name { blank.name ≡ L.name }
     requires parts { blank.parts ≡ L.parts }
     requires some { 0 < blank.parts }
-    requires design { IsFitDesign design.now }
-    requires served { AllByRecursion (IsServed design.now) script.now }
+    requires design { IsSound design.now.parts }
+    requires none { design.now.parts.items ≡ [] }
+    requires formed { AllByRecursion IsStep script.now }
     requires few { length script.now ≤ 500 }
     ensures run { IfOk result (λ run. Serves design.now [] script.now run.answers run.master.journal) }
-    ensures master { IfOk result (λ run. IsMaster run.master) }
+    ensures master { IfOk result (λ run. IsMaster design.now run.master) }
+    ensures short { IfOk result (λ run. length run.master.journal ≤ length script.now) }
 {
     let mut steps = Steps::<L>::new(blank);
     let mut run = Run {
         answers: Row::new(alloc),
         master: Master {
-            board: Board::new(alloc),
+            board: Board::new(alloc, design)?,
             journal: Entries::new(alloc),
         },
     };

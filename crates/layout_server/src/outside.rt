@@ -100,6 +100,7 @@ pub fn write_file<F: Files>(files: &mut F, file: u32, text: &[u8]) -> Result<(),
     requires { F.writes files.old file }
     ensures ok { OnOk result (Told (F.disk files.old) (F.disk files.new) (WroteFile file text.now)) }
     ensures begins { WroteSome file text.now (F.disk files.old) (F.disk files.new) }
+    ensures writes { OnOk result (F.writes files.new file) }
     ensures asked { F.asked files.new ≡ F.asked files.old }
     ensures cause { HasCause (F.write_faults files.old) (F.write_faults files.new) result }
     ensures other_count { F.read_faults files.new ≡ F.read_faults files.old }

@@ -11,7 +11,7 @@ use layout_io::{Files, Sink};
 use std::alloc::Global;
 
 /// Replays a script for a design, and writes the session file.
-#[tactic(auto, using(crate::proofs::Runs::stored_all, crate::proofs::Runs::store_leaves, crate::proofs::Runs::store_cause, crate::proofs::Runs::load_cause, crate::proofs::Runs::load_leaves))]
+#[tactic(auto, using(crate::proofs::Runs::load_cause, crate::proofs::Runs::load_leaves))]
 pub fn replay<F: Files, O: Sink>(
     alloc: Global,
     files: &mut F,

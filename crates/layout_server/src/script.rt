@@ -2,13 +2,11 @@
 ghost use Rattle.std.specs.Prelude.{◌≡◌, ◌≢◌, ◌+◌, ◌<◌, ◌≤◌, ◌++◌, ◌∷◌, [], List, ℕ, IfOk, OnOk, IfErr, IfSome, IfNone, MatchOption, IsTrue, length, ◌==◌};
 ghost use Rattle.std.specs.List.{position};
 ghost use Rattle.session_wire.specs.Lines.{step_line};
-ghost use Rattle.session_wire.specs.Steps.{IsLine};
+ghost use Rattle.session_wire.specs.Steps.{IsStep, IsLine};
 ghost use Rattle.session_wire.specs.declared.steps.ScriptStep.{ScriptStep};
-ghost use Rattle.layout_server.specs.Scripts.{IsServed, IsScript, IsBad};
-ghost use Rattle.layout_server.specs.Lines.{WhyBad, IsFirstStep, HasNoStep};
+ghost use Rattle.layout_server.specs.Scripts.{IsScript, IsBad};
+ghost use Rattle.layout_server.specs.Lines.{WhyBad, HasNoStep};
 
-use crate::form::is_served;
-use board_rules::Design;
 use layout_io::Row;
 use session_wire::{ScriptStep, ScriptSteps, read_step};
 use std::alloc::{AllocError, Global};
@@ -54,38 +52,17 @@ fn split_line(text: &[u8]) -> Option<(&[u8], &[u8])>
     Some((line, after))
 }
 
-// The step that a line spells, where it is of today's form.
-fn served_step(
-    alloc: Global,
-    design: &Design,
-    line: &[u8],
-) -> Result<Option<ScriptStep>, AllocError>
-    ensures { IfOk result (IsFirstStep design.now line.now) }
-{
-    match read_step(alloc, line)? {
-        None => Ok(None),
-        Some(step) => {
-            if is_served(design, &step) {
-                Ok(Some(step))
-            } else {
-                Ok(None)
-            }
-        }
-    }
-}
-
 // The step of the first line, and what follows the line.
 fn first_step<'a>(
     alloc: Global,
-    design: &Design,
     text: &'a [u8],
 ) -> Result<Option<(ScriptStep, &'a [u8])>, AllocError>
-    ensures some { IfOk result (λ o. IfSome o (λ x. IsServed design.now x.0 × (text.now ≡ step_line x.0 ++ x.1.now))) }
-    ensures none { IfOk result (λ o. IfNone o (HasNoStep design.now text.now)) }
+    ensures some { IfOk result (λ o. IfSome o (λ x. IsStep x.0 × (text.now ≡ step_line x.0 ++ x.1.now))) }
+    ensures none { IfOk result (λ o. IfNone o (HasNoStep text.now)) }
 {
     match split_line(text) {
         None => Ok(None),
-        Some((line, after)) => match served_step(alloc, design, line)? {
+        Some((line, after)) => match read_step(alloc, line)? {
             None => Ok(None),
             Some(step) => Ok(Some((step, after))),
         },
@@ -93,10 +70,10 @@ fn first_step<'a>(
 }
 
 // The steps of a script that isn't too long.
-fn read_lines(alloc: Global, design: &Design, text: &[u8]) -> Result<ScriptSteps, ScriptFault>
+fn read_lines(alloc: Global, text: &[u8]) -> Result<ScriptSteps, ScriptFault>
     requires { length text.now ≤ 67108864 }
-    ensures ok { IfOk result (IsScript design.now text.now) }
-    ensures err { IfErr result (WhyBad design.now text.now) }
+    ensures ok { IfOk result (IsScript text.now) }
+    ensures err { IfErr result (WhyBad text.now) }
 {
     let mut steps = Row::new(alloc);
     let mut rest = text;
@@ -104,7 +81,7 @@ fn read_lines(alloc: Global, design: &Design, text: &[u8]) -> Result<ScriptSteps
         if steps.len() == LINE_LIMIT {
             return Err(ScriptFault::Line(LINE_LIMIT as u64 + 1));
         }
-        match first_step(alloc, design, rest)? {
+        match first_step(alloc, rest)? {
             None => return Err(ScriptFault::Line(steps.len() as u64 + 1)),
             Some((step, after)) => {
                 steps.push(step)?;
@@ -115,13 +92,13 @@ fn read_lines(alloc: Global, design: &Design, text: &[u8]) -> Result<ScriptSteps
     Ok(steps)
 }
 
-/// The steps of a script for a design, or the first line that isn't one.
-pub fn read_script(alloc: Global, design: &Design, text: &[u8]) -> Result<ScriptSteps, ScriptFault>
-    ensures ok { IfOk result (IsScript design.now text.now) }
-    ensures err { IfErr result (WhyBad design.now text.now) }
+/// The steps of a script, or the first line that isn't one.
+pub fn read_script(alloc: Global, text: &[u8]) -> Result<ScriptSteps, ScriptFault>
+    ensures ok { IfOk result (IsScript text.now) }
+    ensures err { IfErr result (WhyBad text.now) }
 {
     if text.len() > SCRIPT_LIMIT {
         return Err(ScriptFault::Line(0));
     }
-    read_lines(alloc, design, text)
+    read_lines(alloc, text)
 }

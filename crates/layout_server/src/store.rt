@@ -14,6 +14,7 @@ use crate::outside::{write_file, write_out};
 use crate::stop::Stop;
 use crate::texts::{Texts, texts_of};
 use layout_io::{Files, IoFault, Sink};
+use ses_writer::SesPieces;
 use std::alloc::Global;
 
 // Makes the session file, which is then empty.
@@ -44,11 +45,12 @@ fn put_out<O: Sink>(out: &mut O, text: &[u8]) -> Result<(), Stop>
     }
 }
 
-// Writes the session file.
+// Writes a piece of the session file.
 fn put_file<F: Files>(files: &mut F, file: u32, text: &[u8]) -> Result<(), Stop>
     requires { F.writes files.old file }
     ensures ok { OnOk result (Told (F.disk files.old) (F.disk files.new) (WroteFile file text.now)) }
     ensures begins { WroteSome file text.now (F.disk files.old) (F.disk files.new) }
+    ensures writes { OnOk result (F.writes files.new file) }
     ensures asked { F.asked files.new ≡ F.asked files.old }
     ensures cause { CreateCause (F.write_faults files.old) (F.write_faults files.new) result }
     ensures read { F.read_faults files.new ≡ F.read_faults files.old }
@@ -60,25 +62,44 @@ fn put_file<F: Files>(files: &mut F, file: u32, text: &[u8]) -> Result<(), Stop>
     }
 }
 
+// Writes the session file, one piece after another.
+fn put_pieces<F: Files>(files: &mut F, file: u32, session: &mut SesPieces) -> Result<(), Stop>
+    requires { F.writes files.old file }
+    ensures ok { OnOk result (Told (F.disk files.old) (F.disk files.new) (WroteFile file session.old)) }
+    ensures begins { WroteSome file session.old (F.disk files.old) (F.disk files.new) }
+    ensures asked { F.asked files.new ≡ F.asked files.old }
+    ensures cause { CreateCause (F.write_faults files.old) (F.write_faults files.new) result }
+    ensures read { F.read_faults files.new ≡ F.read_faults files.old }
+{
+    let mut room = [0u8; 4096];
+    'pieces: loop {
+        let count = session.next(&mut room);
+        if count == 0 {
+            return Ok(());
+        }
+        put_file(files, file, &room[..count])?;
+    }
+}
+
 // Writes the output, and then the session file.
 #[tactic(auto, using(crate::proofs::Stores::front_of_output, crate::proofs::Stores::front_of_session))]
 fn put_texts<F: Files, O: Sink>(
     files: &mut F,
     out: &mut O,
     file: u32,
-    texts: &Texts,
+    texts: &mut Texts,
 ) -> Result<(), Stop>
     requires { F.writes files.old file }
-    ensures out { OnOk result (Appends (O.written out.old) (O.written out.new) texts.now.output) }
-    ensures session { OnOk result (Told (F.disk files.old) (F.disk files.new) (WroteFile file texts.now.session)) }
-    ensures left { OnErr result (Fronts texts.now.output texts.now.session file (F.disk files.old) (F.disk files.new) (O.written out.old) (O.written out.new)) }
+    ensures out { OnOk result (Appends (O.written out.old) (O.written out.new) texts.old.output) }
+    ensures session { OnOk result (Told (F.disk files.old) (F.disk files.new) (WroteFile file texts.old.session)) }
+    ensures left { OnErr result (Fronts texts.old.output texts.old.session file (F.disk files.old) (F.disk files.new) (O.written out.old) (O.written out.new)) }
     ensures asked { F.asked files.new ≡ F.asked files.old }
     ensures fault { IfErr result WriteFault }
     ensures cause { WriteCause (F.write_faults files.old) (F.write_faults files.new) (O.faults out.old) (O.faults out.new) result }
     ensures read { F.read_faults files.new ≡ F.read_faults files.old }
 {
     put_out(out, texts.output.as_slice())?;
-    put_file(files, file, texts.session.as_slice())
+    put_pieces(files, file, &mut texts.session)
 }
 
 /// Makes the session file, runs what was loaded, and writes its texts.
@@ -99,8 +120,8 @@ pub fn store<F: Files, O: Sink>(
     ensures read { F.read_faults files.new ≡ F.read_faults files.old }
 {
     let file = make_file(files, session)?;
-    let Ok(texts) = texts_of(alloc, &loaded.design, &loaded.steps) else {
+    let Ok(mut texts) = texts_of(alloc, &loaded.design, &loaded.steps) else {
         return Err(Stop::Memory);
     };
-    put_texts(files, out, file, &texts)
+    put_texts(files, out, file, &mut texts)
 }

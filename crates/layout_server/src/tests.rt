@@ -6,6 +6,75 @@ use std::test::Fail;
 const DESIGN: &str =
     "(pcb s.dsn (unit um) (structure (layer L1 (type signal)) (rule (width 100) (clearance 200))) (network (net A) (net B) (net C)))";
 
+const LAYERS: &str =
+    "(pcb b.dsn (unit um) (structure (layer L1 (type signal)) (layer L2 (type signal)) (via V) (rule (width 100) (clearance 200))) (library (padstack V (shape (circle L1 600)) (shape (circle L2 600)))) (network (net A) (net B) (net C)))";
+
+// Two wires that cross, and a point that is a thousandth of a micrometre too near to a slanting wire.
+const CROSSING: &str = "do 1 edit 0 1 wire 0 0 250000 2 0 0 4000000 3000000
+do 2 edit 0 1 wire 1 0 250000 2 4000000 0 0 3000000
+do 2 edit 0 1 wire 1 0 250000 2 1730000 1859999 1730000 1859999
+do 2 edit 0 1 wire 1 0 250000 2 1730000 1860000 1730000 1860000
+";
+
+const CROSSED: &str = "1 ok 1
+2 no clash 1 1
+2 no clash 1 1
+2 ok 2
+journal 2
+entry 1 1 edit 0 1 wire 0 0 250000 2 0 0 4000000 3000000
+entry 2 2 edit 0 1 wire 1 0 250000 2 1730000 1860000 1730000 1860000
+";
+
+// An edit that puts a wire in the place of another.
+const REPLACED: &str = "do 1 edit 0 1 wire 0 0 200000 2 0 0 1000000 0
+do 2 edit 1 1 1 wire 1 0 200000 2 0 100 1000000 100
+do 1 edit 1 1 0
+do 1 edit 1 2 0
+";
+
+const REPLACED_OUTPUT: &str = "1 ok 1
+2 ok 2
+1 no missing 1
+1 ok 3
+journal 3
+entry 1 1 edit 0 1 wire 0 0 200000 2 0 0 1000000 0
+entry 2 2 edit 1 1 1 wire 1 0 200000 2 0 100 1000000 100
+entry 3 1 edit 1 2 0
+";
+
+// Each reason against an edit that can come, and a via at the range's end.
+const REFUSED: &str = "do 1 edit 0 1 via 0 0 0 0
+do 1 edit 0 0
+do 1 edit 2 1 1 0
+do 1 edit 1 9 0
+do 1 edit 1 9 2 wire 0 0 200000 2 0 0 10 0 wire 1 0 200000 2 0 0 10 0
+do 1 edit 0 1 wire 7 5 50000 2 0 0 10 0
+do 1 edit 0 1 wire 0 5 50000 2 0 0 10 0
+do 1 edit 0 1 wire 0 0 50000 2 0 0 10 0
+do 1 edit 0 1 via 0 3 0 0
+do 2 edit 0 1 via 1 0 0 799999
+do 2 edit 0 1 via 1 0 0 800000
+do 3 edit 0 1 via 0 0 1000000000 0
+";
+
+const REFUSED_OUTPUT: &str = "1 ok 1
+1 no empty
+1 no repeated 1
+1 no missing 9
+1 no own 1 2
+1 no net 1
+1 no layer 1
+1 no narrow 1
+1 no padstack 1
+2 no clash 1 1
+2 ok 2
+3 ok 3
+journal 3
+entry 1 1 edit 0 1 via 0 0 0 0
+entry 2 2 edit 0 1 via 1 0 0 800000
+entry 3 3 edit 0 1 via 0 0 1000000000 0
+";
+
 const FIRST: &str = "do 1 edit 0 1 wire 0 0 250000 2 0 0 1000000 0\n";
 
 const SCRIPT: &str = "do 1 edit 0 1 wire 0 0 250000 2 0 0 1000000 0
@@ -114,30 +183,16 @@ fn statuses_have_their_lines(rt: HostRuntime) -> Result<(), Fail> {
         ),
         ("(pcb s.dsn)", "", 2, "design later 0\n"),
         (DESIGN, "do 9 edit 0 0\n", 5, "script 1\n"),
-        (
-            DESIGN,
-            "do 1 edit 0 1 wire 3 0 250000 2 0 0 1000000 0\n",
-            5,
-            "script 1\n",
-        ),
-        (
-            DESIGN,
-            "do 1 edit 0 1 wire 0 0 99999 2 0 0 1000000 0\n",
-            5,
-            "script 1\n",
-        ),
-        (
-            DESIGN,
-            "do 1 edit 0 1 wire 0 0 250000 2 0 0 1000000 1\n",
-            5,
-            "script 1\n",
-        ),
+        (DESIGN, "do 1 edit 1 01 0\n", 5, "script 1\n"),
         (
             DESIGN,
             "do 1 edit 0 1 wire 0 0 250000 2 0 0 1000000 0",
             5,
             "script 1\n",
         ),
+        (DESIGN, CROSSING, 0, CROSSED),
+        (DESIGN, REPLACED, 0, REPLACED_OUTPUT),
+        (LAYERS, REFUSED, 0, REFUSED_OUTPUT),
     ] {
         let mut files = files_of(alloc, design, script)?;
         let mut out = MemSink::new(alloc);

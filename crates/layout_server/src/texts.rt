@@ -1,9 +1,9 @@
 //! The texts of a run.
 ghost use Rattle.std.specs.Prelude.{◌≡◌, ◌++◌, ◌∷◌, [], ◌≤◌, OnOk, IfOk, length};
 ghost use Rattle.std.specs.List.{flat_map, AllByRecursion};
-ghost use Rattle.board_rules.specs.Needs.{IsFitDesign};
-ghost use Rattle.layout_server.specs.Scripts.{IsServed};
+ghost use Rattle.session_wire.specs.Steps.{IsStep};
 ghost use Rattle.session_wire.specs.Lines.{entry_line};
+ghost use Rattle.layout_server.specs.Loads.{IsToday};
 ghost use Rattle.layout_server.specs.Replays.{answer_line, count_line, output_of, IsRunOf};
 
 use crate::master::{Answered, serve};
@@ -11,17 +11,17 @@ use board_items::Entry;
 use board_rules::Design;
 use itoa::Buffer;
 use layout_io::Bytes;
-use ses_writer::put_session;
+use ses_writer::SesPieces;
 use session_wire::{ScriptSteps, write_entry, write_reply};
 use std::alloc::{AllocError, Global};
 use std::marker::Brand;
 use std::sync::ledger::Blank;
 
-/// What a run writes: the output, and the session text.
+/// What a run writes: the output, and the session text in pieces.
 #[derive(Debug, Drop)]
 pub struct Texts {
     pub output: Bytes,
-    pub session: Bytes,
+    pub session: SesPieces,
 }
 
 fn put_answer(out: &mut Bytes, answered: &Answered) -> Result<(), AllocError>
@@ -71,18 +71,15 @@ fn output_text(alloc: Global, answers: &[Answered], journal: &[Entry]) -> Result
 }
 
 /// Answers the steps of a script, and writes what comes of it.
-#[tactic(auto, using(crate::proofs::Ready::kept_layers))]
+#[tactic(auto, using(crate::proofs::Journals::few_live))]
 pub fn texts_of(alloc: Global, design: &Design, script: &ScriptSteps) -> Result<Texts, AllocError>
-    requires design { IsFitDesign design.now }
-    requires layer { length design.now.layers ≡ 1 }
-    requires nets { length design.now.nets ≤ 1000 }
-    requires served { AllByRecursion (IsServed design.now) script.now }
+    requires design { IsToday design.now }
+    requires formed { AllByRecursion IsStep script.now }
     requires few { length script.now ≤ 500 }
     ensures { IfOk result (λ texts. IsRunOf design.now script.now texts.output texts.session) }
 {
     let run = serve::<Brand>(alloc, design, script, Blank::new(1))?;
     let output = output_text(alloc, run.answers.as_slice(), run.master.journal.as_slice())?;
-    let mut session = Bytes::new(alloc);
-    put_session(&mut session, design, run.master.board.live())?;
+    let session = SesPieces::new(alloc, design, &run.master.board)?;
     Ok(Texts { output, session })
 }

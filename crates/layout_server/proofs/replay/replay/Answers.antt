@@ -1,6 +1,6 @@
 use Rattle.std.proofs.Common.{[], ◌∷◌}
 use Rattle.layout_server.proofs.Asks.{asked_less, asked_after}
-use Rattle.layout_server.proofs.Runs.{left_if, cause_if}
+use Rattle.layout_server.proofs.Runs.{all_if, left_if, cause_if}
 use Rattle.layout_server.proofs.replay.replay.Goals as goal
 
 pub returns-in_err-loaded-clause-asked : goal.returns-in_err-loaded-clause-asked
@@ -18,3 +18,7 @@ returns-clause-left g c =
 pub returns-clause-cause : goal.returns-clause-cause
 returns-clause-cause g c =
     cause_if c.store.result c.args.design.now c.args.script.now c.args.session.now c.in_ok-loaded.loaded (g.F.Files.disk c.args.files.now) (g.F.Files.disk c.load.new.files) c.store.ensures.fault c.in_ok-loaded.ensures.inputs
+
+pub returns-clause-ok : goal.returns-clause-ok
+returns-clause-ok g c =
+    all_if c.store.result c.args.design.now c.args.script.now c.args.session.now c.in_ok-loaded.loaded (g.F.Files.disk c.args.files.now) (g.F.Files.disk c.load.new.files) (g.F.Files.disk c.store.new.files) (g.O.Sink.written c.args.out.now) (g.O.Sink.written c.store.new.out) c.in_ok-loaded.ensures.inputs c.load.ensures.kept c.store.ensures.ok

@@ -1,12 +1,12 @@
 use Rattle.std.proofs.Common.{◌≡◌, ◌++◌, ◌≤◌, length}
 use Rattle.std.specs.List.{flat_map, AllByRecursion}
 use Rattle.session_wire.specs.Lines.{step_line}
-use Rattle.layout_server.specs.Scripts.{IsServed}
+use Rattle.session_wire.specs.Steps.{IsStep}
 use Rattle.layout_server.proofs.script.read_lines.Given as goal
 
 abbrev pub invariant-loop-rest : goal.invariant-loop-rest
 invariant-loop-rest l = record {
-  served : AllByRecursion (IsServed l.design) l.steps;
+  formed : AllByRecursion IsStep l.steps;
   parts : l.text ≡ flat_map step_line l.steps ++ l.rest;
   few : length l.steps ≤ 500;
 }
