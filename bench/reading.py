@@ -1,6 +1,7 @@
 #!/usr/bin/env python3
-"""Measures reading: the program on designs whose names fill 8 to 64 MiB, and the tree of texts
-of 4 to 64 MiB against `wc -w` on the same file. Give it no words; build with `rt run` first.
+"""Measures reading: the program on designs whose names fill 8 to 64 MiB and on designs of many padstacks,
+and the tree of texts of 4 to 64 MiB against `wc -w` on the same file. Give it no words; build with
+`rt run` first.
 
 It prints a row a size: processor seconds, the most memory in MB, and what it is compared with.
 A child's memory is counted from its start as a copy of this process, so no text is held whole here.
@@ -43,6 +44,15 @@ def write_design(path, size):
         file.write(b"))")
 
 
+def write_library(path, stacks, circles):
+    """A design of so many padstacks with so many circles each."""
+    with open(path, "wb") as file:
+        file.write(b"(pcb s.dsn (unit um) (structure (layer L1 (type signal)) (rule (width 100) (clearance 200))) (library")
+        for i in range(stacks):
+            file.write(b" (padstack P%d%s)" % (i, b" (shape (circle L1 600))" * circles))
+        file.write(b") (network (net A)))")
+
+
 def write_text(path, size, piece):
     """One list that is filled with a piece."""
     with open(path, "wb") as file:
@@ -61,6 +71,16 @@ def designs(folder):
         print(f"  {mib:3d} {seconds:8.2f} {most:8.0f} {status}")
 
 
+def libraries(folder):
+    print("design of padstacks: how many, circles of each, MiB, seconds, MB, status")
+    for stacks, circles in ((6500, 2), (65000, 2), (65000, 20)):
+        path = os.path.join(folder, "l.dsn")
+        write_library(path, stacks, circles)
+        open(os.path.join(folder, "l.script"), "w").close()
+        seconds, most, status, _ = timed([SERVER, "replay", path, os.path.join(folder, "l.script"), os.path.join(folder, "l.ses")])
+        print(f"  {stacks:6d} {circles:3d} {os.path.getsize(path) / MIB:6.1f} {seconds:8.2f} {most:8.0f} {status}")
+
+
 def trees(folder):
     print("tree of a text: piece, MiB, seconds, MB, wc -w seconds, ratio, lists and words")
     path = os.path.join(folder, "t.txt")
@@ -73,20 +93,6 @@ def trees(folder):
         print(f"  {piece.decode():9s} {mib:3d} {seconds:8.2f} {most:8.0f} {words:8.3f} {seconds / max(words, 0.001):8.1f}  {output.decode().strip()}")
 
 
-def requests(folder):
-    print("requests a second with wires that all stay apart: live items, seconds, requests a second")
-    path = os.path.join(folder, "r.dsn")
-    with open(path, "wb") as file:
-        file.write(b"(pcb s.dsn (unit um) (structure (layer L1 (type signal)) (rule (width 100) (clearance 200))) (network (net A) (net B)))")
-    for count in (100, 250, 500):
-        script = os.path.join(folder, "r.script")
-        with open(script, "w") as file:
-            for i in range(count):
-                file.write(f"do 1 edit 0 1 wire {i % 2} 0 100000 2 0 {i * 1000000} 900000 {i * 1000000}\n")
-        seconds, _, status, _ = timed([SERVER, "replay", path, script, os.path.join(folder, "r.ses")])
-        print(f"  {count:4d} {seconds:8.3f} {count / max(seconds, 0.001):10.0f}  status {status}")
-
-
 def main():
     for program in (SERVER, COUNT):
         if not os.path.exists(program):
@@ -94,8 +100,8 @@ def main():
             return 1
     with tempfile.TemporaryDirectory() as folder:
         designs(folder)
+        libraries(folder)
         trees(folder)
-        requests(folder)
     return 0
 
 
