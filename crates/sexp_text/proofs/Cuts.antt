@@ -16,14 +16,14 @@ no_mark : (p : ℕ → Bool) (xs : List ℕ) → AllByRecursion (λ c. p c ≡ f
 no_mark p [] free = refl
 no_mark p (c ∷ cs) free = rw free.0 (omega (arith, no_mark p cs free.1))
 
-position_found : (p : ℕ → Bool) (front rest : List ℕ) (m : ℕ) → AllByRecursion (λ c. p c ≡ false) front → p m ≡ true → position p (front ++ m ∷ rest) ≡ Some (length front)
+pub position_found : (p : ℕ → Bool) (front rest : List ℕ) (m : ℕ) → AllByRecursion (λ c. p c ≡ false) front → p m ≡ true → position p (front ++ m ∷ rest) ≡ Some (length front)
 position_found p front rest m free marked =
     let e : position_or_len p (front ++ m ∷ rest) ≡ length front = mark_at p front rest m free marked in
     let lt : length front < length (front ++ m ∷ rest) = omega (arith, length-append front (m ∷ rest)) in
     let b : ltb (length front) (length (front ++ m ∷ rest)) ≡ true = lt-ltb _ _ lt in
     rw (e, b) refl
 
-position_none : (p : ℕ → Bool) (xs : List ℕ) → AllByRecursion (λ c. p c ≡ false) xs → position p xs ≡ None
+pub position_none : (p : ℕ → Bool) (xs : List ℕ) → AllByRecursion (λ c. p c ≡ false) xs → position p xs ≡ None
 position_none p xs free =
     let e : position_or_len p xs ≡ length xs = no_mark p xs free in
     let b : ltb (length xs) (length xs) ≡ false = le-ltb _ _ (omega arith) in

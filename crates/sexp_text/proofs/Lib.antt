@@ -25,3 +25,7 @@ pub mod Cuts
 pub mod DigitLists
 pub mod NumberReadings
 pub mod Roundings
+pub mod LengthCuts
+pub mod LengthParts
+pub mod LengthReadings
+pub mod LengthLaws

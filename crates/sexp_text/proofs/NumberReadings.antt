@@ -13,7 +13,7 @@ pub some_of : {T : Type 0} (r : Option T) (P : Type 0) (v : T) → SomeIff r P v
 some_of None P v h p = absurd (h p)
 some_of (Some x) P v h p = ap Some h.1
 
-holds_of : {T : Type 0} (r : Option T) (P : Type 0) (v : T) → SomeIff r P v → IsSome r → P
+pub holds_of : {T : Type 0} (r : Option T) (P : Type 0) (v : T) → SomeIff r P v → IsSome r → P
 holds_of None P v h s = absurd cc
 holds_of (Some x) P v h s = h.0
 
@@ -21,13 +21,13 @@ one_of : {A B : Type 0} (s t : Bool) → (s ≡ true → A) → (t ≡ true → 
 one_of true t f g e = inl (f refl)
 one_of false t f g e = inr (g e)
 
-either_true : (a b c : ℕ) → is_either a b c ≡ true → (c ≡ a) ⊎ (c ≡ b)
+pub either_true : (a b c : ℕ) → is_either a b c ≡ true → (c ≡ a) ⊎ (c ≡ b)
 either_true a b c e = one_of _ _ (eqb-true c a) (eqb-true c b) e
 
-mark_either : (m : ℕ) → (m ≡ 101) ⊎ (m ≡ 69) → is_either 101 69 m ≡ true
+pub mark_either : (m : ℕ) → (m ≡ 101) ⊎ (m ≡ 69) → is_either 101 69 m ≡ true
 mark_either m h = elim h [ inl e ↦ rw e refl | inr e ↦ rw e refl ]
 
-is_point : (m : ℕ) → is_either 46 46 m ≡ true → m ≡ 46
+pub is_point : (m : ℕ) → is_either 46 46 m ≡ true → m ≡ 46
 is_point m h = elim (either_true 46 46 m h) [ inl e ↦ e | inr e ↦ e ]
 
 -- a mantissa without a point

@@ -11,3 +11,4 @@ pub mod Trees
 pub mod NumberTexts
 pub mod NumberParts
 pub mod Lengths
+pub mod LengthReading
