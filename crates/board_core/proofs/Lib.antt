@@ -1,3 +1,4 @@
 pub mod Rising
 pub mod Reasons
 pub mod Growing
+pub mod Cleaned

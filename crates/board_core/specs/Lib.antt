@@ -2,5 +2,6 @@ pub mod Lives
 pub mod Finds
 pub mod Boards
 pub mod Clashes
+pub mod Clean
 pub mod Answers
 pub mod Journals

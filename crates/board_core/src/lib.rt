@@ -7,7 +7,9 @@ mod clashes;
 mod deletes;
 mod find;
 mod live;
+mod pairs;
 
 pub use answer::slow_answer;
 pub use board::Board;
 pub use live::{Live, Lives};
+pub use pairs::clean;
