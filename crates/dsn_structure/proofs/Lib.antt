@@ -1,0 +1,12 @@
+pub mod Sound
+pub mod Fits
+pub mod StyleLaws
+pub mod ControlLaws
+pub mod FlipLaws
+pub mod NewLayerLaws
+pub mod LayerLaws
+pub mod AddingLaws
+pub mod OneListLaws
+pub mod SectionLaws
+pub mod SectionReadings
+pub mod Whole

@@ -1,0 +1,128 @@
+-- What the lists of the structure section state.
+-- Models: the structure, layer, via and place_control descriptors of the SPECCTRA reference. Left out: planes, and the
+-- type of a layer. Later: boundary and the keepouts.
+use Rattle.std.specs.Prelude.{ℕ, nat_lt, ◌==◌, Bool, true, false, is_some, List, [], ◌∷◌, ◌++◌, codes, length, Option, Some, None, Ok, if◌then◌else◌}
+use Rattle.sexp_text.specs.Forest.{Forest, End, Word, Branch}
+use Rattle.sexp_text.specs.declared.units.Unit.{Unit as LengthUnit}
+use Rattle.dsn_lists.specs.declared.faults.DesignKind.TheVariants as kind
+use Rattle.dsn_lists.specs.declared.marks.Mark.{Mark}
+use Rattle.dsn_lists.specs.declared.pcb.Section.TheVariants as sections
+use Rattle.dsn_lists.specs.Results.{Read, ◌>>=◌, wrong, each}
+use Rattle.dsn_lists.specs.Names.{is_among}
+use Rattle.dsn_lists.specs.Words.{Heading, same, head_of, word_of, spare, one_word, name_list}
+use Rattle.dsn_lists.specs.Units.{unit_list, governing}
+use Rattle.dsn_lists.specs.Rules.{no_rule, rule_of}
+use Rattle.dsn_lists.specs.Pcbs.{Spot, design_of, section_in}
+use Rattle.dsn_structure.specs.declared.flips.FlipStyle.{FlipStyle}
+use Rattle.dsn_structure.specs.declared.flips.FlipStyle.TheVariants.{MirrorFirst, RotateFirst}
+use Rattle.dsn_structure.specs.declared.structure.Structure.{Structure}
+use Rattle.dsn_structure.specs.declared.structure.StructureWord.{StructureWord}
+use Rattle.dsn_structure.specs.declared.structure.StructureWord.TheVariants as words
+
+-- ---- `(place_control (flip_style mirror_first|rotate_first))`
+
+unfoldable pub flip_named : List ℕ → Option FlipStyle
+flip_named text =
+    if same text (codes "mirror_first") then Some MirrorFirst else
+    if same text (codes "rotate_first") then Some RotateFirst else None
+
+abbrev pub known_flip : ℕ → Option FlipStyle → Read FlipStyle
+known_flip at None = wrong kind.Style at
+known_flip at (Some s) = Ok s
+
+-- `(flip_style <word>)`
+unfoldable pub flip_list : ℕ → Forest → Read FlipStyle
+flip_list at f = do
+  w ← word_of at f
+  s ← known_flip w.0.at (flip_named w.0.name)
+  _ ← spare w.1
+  Ok s
+
+-- a list of `place_control`, of which only one states a flip style
+unfoldable pub flip_item : Option FlipStyle → ℕ → Forest → Read (Option FlipStyle)
+flip_item o at inside =
+    if same (head_of inside).text (codes "flip_style") then (if is_some o then wrong kind.Form at else (flip_list at (head_of inside).args >>= λ s. Ok (Some s))) else Ok o
+
+abbrev pub stated_flip : ℕ → Option FlipStyle → Read FlipStyle
+stated_flip at None = wrong kind.Form at
+stated_flip at (Some s) = Ok s
+
+unfoldable pub flip_of : ℕ → Forest → Read FlipStyle
+flip_of at f = each flip_item None f >>= λ o. stated_flip at o
+
+-- ---- `(layer <id> (type <word>) ..)`
+
+-- a list of a layer, which has to have a type
+unfoldable pub type_item : Bool → ℕ → Forest → Read Bool
+type_item typed at inside = if same (head_of inside).text (codes "type") then (one_word at (head_of inside).args >>= λ _. Ok true) else Ok typed
+
+-- a layer's name, which no layer before it has, of at most 32
+unfoldable pub new_layer : List (List ℕ) → Mark → Read (Unit {0})
+new_layer names w = if is_among w.name names then wrong kind.Twice w.at else if nat_lt 31 (length names) then wrong kind.Large w.at else Ok tt
+
+-- the name of a layer behind layers of these names
+unfoldable pub layer_of : List (List ℕ) → ℕ → Forest → Read (List ℕ)
+layer_of names at f = do
+  w ← word_of at f
+  _ ← new_layer names w.0
+  typed ← each type_item false w.1
+  if typed then Ok w.0.name else wrong kind.Form at
+
+-- ---- the section
+
+-- the names of the layers and of one more
+abbrev pub layers_with : List (List ℕ) → ℕ → Forest → Read (List (List ℕ))
+layers_with names at f = layer_of names at f >>= λ name. Ok (names ++ name ∷ [])
+
+-- the structure with one more list of vias
+abbrev pub with_vias : Structure → ℕ → Forest → Read Structure
+with_vias s at f = name_list at f >>= λ ms. Ok (record s { vias = s.vias ++ ms ∷ [] })
+
+-- the structure with what one more rule states
+abbrev pub with_rule : LengthUnit → Structure → Forest → Read Structure
+with_rule u s f = rule_of u s.rule f >>= λ r. Ok (record s { rule = r })
+
+unfoldable pub area_word : List ℕ → StructureWord
+area_word text =
+    if same text (codes "boundary") then words.Later else
+    if same text (codes "keepout") then words.Later else
+    if same text (codes "via_keepout") then words.Later else
+    if same text (codes "wire_keepout") then words.Later else words.Other
+
+-- what a list of the section is
+unfoldable pub structure_word : List ℕ → StructureWord
+structure_word text =
+    if same text (codes "layer") then words.Layer else
+    if same text (codes "via") then words.Via else
+    if same text (codes "rule") then words.Rule else
+    if same text (codes "place_control") then words.PlaceControl else
+    if same text (codes "unit") then words.Unit else
+    if same text (codes "resolution") then words.Resolution else area_word text
+
+abbrev pub structure_list : LengthUnit → Structure → ℕ → Heading → StructureWord → Read Structure
+structure_list u s at h words.Layer = layers_with s.layers at h.args >>= λ names. Ok (record s { layers = names })
+structure_list u s at h words.Via = with_vias s at h.args
+structure_list u s at h words.Rule = with_rule u s h.args
+structure_list u s at h words.PlaceControl = flip_of at h.args >>= λ o. Ok (record s { flip = Some o })
+structure_list u s at h words.Unit = unit_list at h.args >>= λ _. Ok s
+structure_list u s at h words.Resolution = wrong kind.Unit h.at
+structure_list u s at h words.Later = wrong kind.Later at
+structure_list u s at h words.Other = Ok s
+
+unfoldable pub structure_item : LengthUnit → Structure → ℕ → Forest → Read Structure
+structure_item u s at inside = structure_list u s at (head_of inside) (structure_word (head_of inside).text)
+
+abbrev pub no_structure : Structure
+no_structure = record { layers = []; vias = []; rule = no_rule; flip = None }
+
+-- a section with a layer, whose list begins at this byte
+unfoldable pub with_layer : ℕ → Structure → Read Structure
+with_layer at s = if length s.layers == 0 then wrong kind.Missing at else Ok s
+
+-- the section at its place, where this unit governs the design
+unfoldable pub structure_at : LengthUnit → Spot → Read Structure
+structure_at u p = each (structure_item (governing u p.args)) no_structure p.args >>= λ s. with_layer p.at s
+
+-- the structure of a design
+unfoldable pub structure_of : Forest → Read Structure
+structure_of f = design_of f >>= λ t. structure_at t.unit (section_in sections.Structure f)
