@@ -1,0 +1,25 @@
+-- What was read is within the limits.
+use Rattle.std.proofs.Common.{ℕ, ◌≤◌, ◌*◌, List, length, Ok, Err}
+use Rattle.sexp_text.specs.Nodes.{size}
+use Rattle.std.specs.Prelude.{IfOk, Result}
+use Rattle.sexp_text.specs.Forest.{Forest}
+use Rattle.dsn_lists.specs.declared.faults.ReadWhy.{ReadWhy}
+use Rattle.dsn_lists.specs.Results.{Gives}
+use Rattle.dsn_library.specs.declared.library.Library.{Library}
+use Rattle.dsn_library.specs.declared.network.Network.{Network}
+use Rattle.dsn_library.specs.Libraries.{library_of}
+use Rattle.dsn_library.specs.Networks.{network_of}
+use Rattle.dsn_library.specs.Limits.{IsFitLibrary, IsFitNetwork}
+use Rattle.dsn_library.proofs.Sound.{library_of_fit, network_of_fit, network_of_few}
+
+pub library_if_given : (f : Forest) (layers : List (List ℕ)) (r : Result Library ReadWhy) → Gives (λ (x : Library). x) r (library_of f layers) → IfOk r (IsFitLibrary (length layers))
+library_if_given f layers (Ok x) e = library_of_fit f layers x e
+library_if_given f layers (Err why) e = tt
+
+pub network_if_given : (f : Forest) (r : Result Network ReadWhy) → Gives (λ (x : Network). x) r (network_of f) → IfOk r IsFitNetwork
+network_if_given f (Ok x) e = network_of_fit f x e
+network_if_given f (Err why) e = tt
+
+pub few_if_given : (f : Forest) (r : Result Network ReadWhy) → Gives (λ (x : Network). x) r (network_of f) → IfOk r (λ (n : Network). length n.classes ≤ 32 * size f)
+few_if_given f (Ok x) e = network_of_few f x e
+few_if_given f (Err why) e = tt

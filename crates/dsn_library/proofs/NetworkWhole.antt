@@ -1,0 +1,51 @@
+-- The network of a design is read exactly where the design has it, and its first fault is the one that is told.
+use Rattle.std.proofs.Common.{◌≡◌, Result, Ok, Err, IfOk, IfErr, refl, inl, inr}
+use Rattle.sexp_text.specs.Forest.{Forest}
+use Rattle.dsn_lists.specs.declared.faults.DesignFault.{DesignFault}
+use Rattle.dsn_lists.specs.declared.faults.ReadWhy.{ReadWhy}
+use Rattle.dsn_lists.specs.declared.faults.ReadWhy.TheVariants.{Fault, Memory}
+use Rattle.dsn_lists.specs.Results.{Fails, Gives}
+use Rattle.dsn_lists.specs.Pcbs.{design_of}
+use Rattle.dsn_lists.proofs.Firsts.{bind_ok, bind_err}
+use Rattle.dsn_lists.proofs.TitleLaws.{title_found, title_again, title_why, why_title}
+use Rattle.dsn_library.specs.declared.network.Network.{Network}
+use Rattle.dsn_library.specs.Networks.{network_at, network_of}
+use Rattle.dsn_library.specs.NetworkMeaning.{section, HasNetwork, NetworkFault, WhyNot}
+use Rattle.dsn_library.proofs.NetworkReadings.{network_found, network_again, fault_found, fault_again}
+
+-- ---- the network of a design
+
+pub has_found : (f : Forest) (n : Network) → network_of f ≡ Ok n → HasNetwork f n
+unfolding network_of
+has_found f n e =
+    let t = bind_ok (design_of f) (λ t. network_at t.unit (section f)) n e in
+    (t.0, title_found f t.0 t.1, network_found t.0.unit (section f) n t.2)
+
+pub has_again : (f : Forest) (n : Network) → HasNetwork f n → network_of f ≡ Ok n
+unfolding network_of
+has_again f n h = rw (title_again f h.0 h.1) (network_again h.0.unit (section f) n h.2)
+
+pub why_found : (f : Forest) (e : DesignFault) → network_of f ≡ Err e → NetworkFault f e
+unfolding network_of
+why_found f e h =
+    elim (bind_err (design_of f) (λ t. network_at t.unit (section f)) e h) [
+      | inl here ↦ inl (title_why f e here)
+      | inr later ↦ inr (later.0, title_found f later.0 later.1, fault_found later.0.unit (section f) e later.2)
+    ]
+
+pub why_again : (f : Forest) (e : DesignFault) → NetworkFault f e → network_of f ≡ Err e
+unfolding network_of
+why_again f e (inl here) = rw (why_title f e here) refl
+why_again f e (inr later) = rw (title_again f later.0 later.1) (fault_again later.0.unit (section f) e later.2)
+
+pub is_found : (f : Forest) (r : Result Network ReadWhy) → Gives (λ x. x) r (network_of f) → IfOk r (HasNetwork f)
+is_found f (Ok n) given = has_found f n given
+is_found f (Err why) given = tt
+
+why_not : (f : Forest) (why : ReadWhy) → Fails why (network_of f) → WhyNot f why
+why_not f Memory h = tt
+why_not f (Fault e) h = why_found f e h
+
+pub is_fault : (f : Forest) (r : Result Network ReadWhy) → Gives (λ x. x) r (network_of f) → IfErr r (WhyNot f)
+is_fault f (Ok n) given = tt
+is_fault f (Err why) given = why_not f why given

@@ -1,0 +1,12 @@
+pub mod Libraries
+pub mod Placements
+pub mod Networks
+pub mod Limits
+pub mod NewNames
+pub mod NetLists
+pub mod ClassLists
+pub mod NetworkMeaning
+pub mod ClassOf
+pub mod DrawnLists
+pub mod StackLists
+pub mod LibraryMeaning
