@@ -1,19 +1,16 @@
-//! The reader of designs: one form of a SPECCTRA text.
+//! The wiring section and the whole design of a SPECCTRA text.
 #![tactic(auto)]
 
-mod fault;
-mod form;
-mod keyword;
-mod lists;
-mod names;
-mod numbering;
+mod assembly;
+mod ends;
 mod reader;
-mod sizes;
-mod stacks;
-mod words;
+mod vias;
+mod wires;
+mod wiring;
 
-pub use fault::{DesignFault, DesignKind, ReadWhy};
-pub use reader::{one_design, read_design};
+pub use dsn_lists::{DesignFault, DesignKind, ReadWhy};
+pub use reader::{a_design_has_no_fault, one_design, read_design};
+pub use wiring::{Wiring, read_wiring};
 
 #[cfg(test)]
 mod tests;

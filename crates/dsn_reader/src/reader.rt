@@ -1,82 +1,221 @@
-//! A design read from its text.
-ghost use Rattle.std.specs.Prelude.{◌≡◌, ◌≤◌, ◌==◌, List, ℕ, length, IfOk, IfErr};
-ghost use Rattle.std.specs.List.{list_any};
-ghost use Rattle.board_rules.specs.declared.design.Design.{Design};
+//! Reads designs.
+ghost use Rattle.std.specs.Prelude.{◌≡◌, ◌≤◌, ◌<◌, ◌^◌, IfOk, IfErr, List, ℕ, length};
+ghost use Rattle.sexp_text.specs.Nodes.{size};
+ghost use Rattle.sexp_text.specs.Trees.{tree_forest};
 ghost use Rattle.board_rules.specs.Designs.{IsSound};
-ghost use Rattle.sexp_text.specs.declared.token.Token.{Token};
-ghost use Rattle.sexp_text.specs.Text.{HasTokens};
-ghost use Rattle.dsn_reader.specs.Words.{left};
-ghost use Rattle.dsn_reader.specs.Form.{IsDesign, Spells};
-ghost use Rattle.dsn_reader.specs.Reading.{IsReadAs, WhyNot};
+ghost use Rattle.board_rules.specs.declared.design.Design.{Design as Board};
+ghost use Rattle.dsn_lists.specs.declared.faults.DesignFault.{DesignFault};
+ghost use Rattle.dsn_lists.specs.Results.{Gives};
+ghost use Rattle.dsn_structure.specs.Limits.{IsFitStructure};
+ghost use Rattle.dsn_library.specs.Limits.{IsFitLibrary, IsFitNetwork};
+ghost use Rattle.dsn_reader.specs.Assembly.{assembled, gathered, wired, wired_of, behind_library, sections_of, parts_of};
+ghost use Rattle.dsn_reader.specs.Rows.{laid_out};
+ghost use Rattle.dsn_reader.specs.Design.{most_bytes, IsDesign, IsFirstFault, WhyNoDesign, IsReadAs, IsRefusedBy, IsTextWhy};
 
-use crate::fault::{ReadWhy, later};
-use crate::form::form_at;
-use crate::numbering::parts_of;
-use crate::words::Words;
-use board_rules::Design;
-use layout_io::Row;
-use sexp_text::{TextFault, Token, lex};
+use crate::assembly::{check_vias, class_rows_of, names_of, net_rows_of, numbers_of_classes};
+use crate::wiring::{Wiring, read_wiring};
+use board_rules::{Design, Parts};
+use dsn_library::{Library, Network, read_library, read_network, read_placement};
+use dsn_lists::{DesignKind, ReadWhy, Title, fault, title_of};
+use dsn_structure::{Structure, read_structure};
+use row_lists::Row;
+use sexp_text::{TextFault, Tree, read_tree};
 use std::alloc::Global;
 
-// The tokens of a text.
-fn tokens_of(alloc: Global, bytes: &[u8]) -> Result<Row<Token>, ReadWhy>
-    requires { length bytes.now ≤ 67108864 }
-    ensures found { IfOk result (HasTokens bytes.now) }
-    ensures one { IfOk result (λ x. (ts : List Token) → HasTokens bytes.now ts → ts ≡ x) }
-    ensures fault { IfErr result (WhyNot ((ts : List Token) → HasTokens bytes.now ts → ⊥)) }
+/// The most bytes that a text has.
+const BYTES: usize = 67_108_864;
+
+// All that the sections of a design state.
+#[derive(Drop)]
+struct Stated {
+    title: Title,
+    structure: Structure,
+    library: Library,
+    network: Network,
+    /// The class of each net that the network has by itself.
+    numbers: Vec<u32>,
+    wiring: Wiring,
+}
+
+// A text fault as the fault of a design.
+fn text_why(why: TextFault) -> ReadWhy
+    ensures { IsTextWhy why result }
 {
-    match lex(alloc, bytes) {
-        Ok(tokens) => Ok(tokens),
-        Err(TextFault::Memory) => Err(ReadWhy::Memory),
-        Err(_) => Err(later()),
+    match why {
+        TextFault::Quote { at } => ReadWhy::from(fault(DesignKind::Quote, at)),
+        TextFault::Unclosed { at } => ReadWhy::from(fault(DesignKind::Unclosed, at)),
+        TextFault::Unopened { at } => ReadWhy::from(fault(DesignKind::Unopened, at)),
+        TextFault::Deep { at } => ReadWhy::from(fault(DesignKind::Deep, at)),
+        TextFault::Memory => ReadWhy::Memory,
     }
 }
 
-// The design that words spell.
-fn design_at(alloc: Global, list: Words<'_>) -> Result<Design, ReadWhy>
-    ensures found { IfOk result (Spells (left list.entry)) }
-    ensures fault { IfErr result (WhyNot ((d : Design) → Spells (left list.entry) d → ⊥)) }
+// The design of what its sections state. Its one error is want of memory.
+fn assemble(alloc: Global, stated: Stated) -> Result<Parts, ReadWhy>
+    requires { length stated.library.names ≤ 65535 }
+    ensures parts { IfOk result (λ parts. parts ≡ assembled (gathered stated)) }
+    // Its classes and nets are those that were stated, in order.
+    ensures rows { IfOk result (λ parts. parts ≡ laid_out (gathered stated)) }
+    ensures memory { IfErr result (λ why. why ≡ ReadWhy.Memory) }
+{
+    let Stated {
+        title,
+        structure,
+        library,
+        network,
+        numbers,
+        wiring,
+    } = stated;
+    let nets = net_rows_of(alloc, &network.nets, &numbers)?;
+    let classes = class_rows_of(alloc, &library.names, &structure, &network)?;
+    let layers = names_of(alloc, &structure.layers)?;
+    Ok(Parts {
+        name: title.name,
+        layers,
+        stacks: library.stacks,
+        nets,
+        classes,
+        outline: Row::new(alloc),
+        items: wiring.items,
+    })
+}
+
+// The wiring and the class of each net, where each name in a list of vias is a padstack's.
+#[tactic(auto, unfolding(crate::specs::Assembly::wired_of))]
+fn wired_of(
+    alloc: Global,
+    tree: &Tree,
+    structure: &Structure,
+    library: &Library,
+    network: &mut Network,
+) -> Result<(Vec<u32>, Wiring), ReadWhy>
+    requires structure { IsFitStructure structure.now }
+    requires library { IsFitLibrary (length structure.now.layers) library.now }
+    requires network { IsFitNetwork network.old }
+    requires few { length network.old.classes < 2 ^ 32 }
+    ensures wired { Gives (wired network.new.nets) result (wired_of (tree_forest tree.now) structure.now library.now network.old) }
+    ensures classes { network.new.classes ≡ network.old.classes }
+{
+    let numbers = numbers_of_classes(alloc, network)?;
+    let wiring = read_wiring(alloc, tree, structure, library, network)?;
+    check_vias(&library.names, structure, network)?;
+    Ok((numbers, wiring))
+}
+
+// All that the sections state behind the structure and the library.
+#[tactic(auto, unfolding(crate::specs::Assembly::behind_library))]
+fn behind_library(
+    alloc: Global,
+    tree: &Tree,
+    title: Title,
+    structure: Structure,
+    library: Library,
+) -> Result<Stated, ReadWhy>
+    requires size { size (tree_forest tree.now) ≤ most_bytes }
+    requires structure { IsFitStructure structure }
+    requires library { IsFitLibrary (length structure.layers) library }
+    ensures stated { Gives gathered result (behind_library (tree_forest tree.now) title.name structure library) }
+    ensures limits { IfOk result (λ stated. length stated.library.names ≤ 65535) }
+{
+    let placement = read_placement(alloc, tree, &structure, &library)?;
+    let mut network = read_network(alloc, tree, &placement, &library)?;
+    let (numbers, wiring) = wired_of(alloc, tree, &structure, &library, &mut network)?;
+    Ok(Stated {
+        title,
+        structure,
+        library,
+        network,
+        numbers,
+        wiring,
+    })
+}
+
+// All that the sections state.
+#[tactic(auto, unfolding(crate::specs::Assembly::sections_of))]
+fn sections_of(alloc: Global, tree: &Tree) -> Result<Stated, ReadWhy>
+    requires { size (tree_forest tree.now) ≤ most_bytes }
+    ensures stated { Gives gathered result (sections_of (tree_forest tree.now)) }
+    ensures limits { IfOk result (λ stated. length stated.library.names ≤ 65535) }
+{
+    let title = title_of(alloc, tree)?;
+    let structure = read_structure(alloc, tree)?;
+    let library = read_library(alloc, tree, &structure)?;
+    behind_library(alloc, tree, title, structure, library)
+}
+
+#[tactic(auto, unfolding(crate::specs::Assembly::parts_of))]
+fn parts_of(alloc: Global, tree: &Tree) -> Result<Parts, ReadWhy>
+    requires { size (tree_forest tree.now) ≤ most_bytes }
+    ensures { Gives (λ x. x) result (parts_of (tree_forest tree.now)) }
+{
+    let stated = sections_of(alloc, tree)?;
+    assemble(alloc, stated)
+}
+
+#[tactic(auto, using(crate::proofs::Fits::sound_if_given, crate::proofs::Fits::few_if_given))]
+fn sound_parts(alloc: Global, tree: &Tree) -> Result<Parts, ReadWhy>
+    requires { size (tree_forest tree.now) ≤ most_bytes }
+    ensures parts { Gives (λ x. x) result (parts_of (tree_forest tree.now)) }
+    ensures sound { IfOk result IsSound }
+    ensures few { IfOk result (λ parts. length parts.items ≤ 200000) }
+{
+    parts_of(alloc, tree)
+}
+
+fn design_of(alloc: Global, tree: &Tree) -> Result<Design, ReadWhy>
+    requires { size (tree_forest tree.now) ≤ most_bytes }
+    ensures states { Gives (λ d. d.parts) result (parts_of (tree_forest tree.now)) }
     ensures fits { IfOk result (λ d. IsSound d.parts) }
+    ensures few { IfOk result (λ d. length d.parts.items ≤ 200000) }
 {
-    let form = form_at(alloc, list)?;
-    let parts = parts_of(alloc, form)?;
-    let design = Design::of_parts(parts)?;
-    Ok(design)
+    let parts = sound_parts(alloc, tree)?;
+    Ok(Design::of_parts(parts)?)
 }
 
-// Whether a text has the byte `"`.
-fn has_quote(bytes: &[u8]) -> bool
-    ensures { result ≡ list_any (λ b. b == 34) bytes.now }
-{
-    bytes.contains(&b'"')
-}
-
-/// The design that a text spells. A text that spells none has the one fault `later` at byte 0.
-pub fn read_design(alloc: Global, bytes: &[u8]) -> Result<Design, ReadWhy>
-    // What is read is what the text spells.
+// The design of a text that isn't too long.
+#[tactic(auto, using(crate::proofs::Readings::found_if, crate::proofs::Readings::fault_if, crate::proofs::Readings::only_if, crate::proofs::Readings::first_if, crate::proofs::Readings::no_only_if, crate::proofs::Readings::no_fault_if, crate::proofs::Readings::no_first_if))]
+fn read_short(alloc: Global, bytes: &[u8]) -> Result<Design, ReadWhy>
+    requires { length bytes.now ≤ most_bytes }
     ensures found { IfOk result (IsDesign bytes.now) }
-    // A text that spells a design is read as that, unless memory runs out.
-    ensures only { (d : Design) → IsDesign bytes.now d → IsReadAs result d }
-    // The one fault comes only where no design is spelled.
-    ensures fault { IfErr result (WhyNot ((d : Design) → IsDesign bytes.now d → ⊥)) }
+    ensures only { (d : Board) → IsDesign bytes.now d → IsReadAs result d }
+    ensures fault { IfErr result (WhyNoDesign bytes.now) }
+    ensures first { (e : DesignFault) → IsFirstFault bytes.now e → IsRefusedBy result e }
+    ensures fits { IfOk result (λ d. IsSound d.parts) }
+    ensures few { IfOk result (λ d. length d.parts.items ≤ 200000) }
+{
+    match read_tree(alloc, bytes) {
+        Ok(tree) => design_of(alloc, &tree),
+        Err(why) => Err(text_why(why)),
+    }
+}
+
+/// The design of a text, or its first fault.
+#[tactic(auto, using(crate::proofs::Readings::long_only_if, crate::proofs::Readings::long_first_if))]
+pub fn read_design(alloc: Global, bytes: &[u8]) -> Result<Design, ReadWhy>
+    // What is read is the design that the text states.
+    ensures found { IfOk result (IsDesign bytes.now) }
+    // A design that the text states is read, unless memory runs out.
+    ensures only { (d : Board) → IsDesign bytes.now d → IsReadAs result d }
+    // What is told is the text's first fault.
+    ensures fault { IfErr result (WhyNoDesign bytes.now) }
+    // The first fault is told, unless memory runs out.
+    ensures first { (e : DesignFault) → IsFirstFault bytes.now e → IsRefusedBy result e }
     // What is read is sound: its numbers name what is there and are within the limits.
     ensures fits { IfOk result (λ d. IsSound d.parts) }
+    ensures few { IfOk result (λ d. length d.parts.items ≤ 200000) }
 {
-    if bytes.len() > 67_108_864 {
-        return Err(later());
+    if bytes.len() > BYTES {
+        return Err(ReadWhy::from(fault(DesignKind::Large, BYTES as u32)));
     }
-    if has_quote(bytes) {
-        return Err(later());
-    }
-    let tokens = tokens_of(alloc, bytes)?;
-    let list = Words {
-        text: bytes,
-        tokens: tokens.as_slice(),
-    };
-    design_at(alloc, list)
+    read_short(alloc, bytes)
 }
 
-/// A text spells at most one design.
+/// A text states at most one design.
 pub fn one_design()
-    ensures { (text : List ℕ) (d : Design) (e : Design) → IsDesign text d → IsDesign text e → d ≡ e }
+    ensures { (text : List ℕ) (d : Board) (e : Board) → IsDesign text d → IsDesign text e → d ≡ e }
+{}
+
+/// A text that states a design has no fault.
+pub fn a_design_has_no_fault()
+    ensures { (text : List ℕ) (d : Board) (e : DesignFault) → IsDesign text d → IsFirstFault text e → ⊥ }
 {}

@@ -1,9 +1,9 @@
 -- What a created file was given over several calls.
-use Rattle.std.proofs.Common.{◌≡◌, ℕ, List, [], ◌∷◌, ◌++◌, length, take, drop, Option, Some, None, refl, sym, ap, ◌∙◌, append_assoc, arith}
+use Rattle.std.proofs.Common.{◌≡◌, ℕ, List, [], ◌++◌, length, take, drop, Option, Some, None, refl, sym, ap, ◌∙◌, append_assoc}
 use Rattle.std.proofs.lemmas.List.{append-nil, take_at, take-append-drop}
-use Rattle.layout_io.specs.Told.{Disk, Told, SameBut, bytes_of, IsWritten, IsCreated}
-use Rattle.layout_server.specs.Outside.{WroteFile, WroteFirst, WroteSome, ReadRest, SameFiles}
-use Rattle.layout_server.specs.Headline.{HasSession, HasFront}
+use Rattle.layout_io.specs.Told.{Disk, Told, bytes_of, IsWritten, IsCreated}
+use Rattle.layout_server.specs.Outside.{WroteFile, WroteFirst, WroteSome, ReadRest}
+use Rattle.layout_server.specs.Headline.{HasSession}
 
 -- the file was given what of the text isn't left
 pub record Gave (file : ℕ) (text rest : List ℕ) (d e : Disk) : Type 0 where

@@ -1,7 +1,5 @@
 -- A journal with one entry more.
-use Rattle.std.proofs.Common.{◌≡◌, ℕ, ◌+◌, ◌*◌, ◌<◌, ◌≤◌, ◌^◌, List, [], ◌∷◌, ◌++◌, length, refl, sym, ap, subst, ◌∙◌, arith, length-append}
-use Rattle.std.specs.List.{AllByRecursion}
-use Rattle.board_items.specs.declared.requests.Add.{Add}
+use Rattle.std.proofs.Common.{◌≡◌, ℕ, ◌+◌, ◌<◌, ◌≤◌, ◌^◌, List, [], ◌∷◌, ◌++◌, length, refl, sym, ap, subst, ◌∙◌, arith, length-append}
 use Rattle.board_items.specs.declared.requests.Request.{Request}
 use Rattle.board_items.specs.declared.requests.Request.TheVariants.{Edit, Reserve, Release, Fence, Unfence, Entitle}
 use Rattle.board_items.specs.declared.history.Act.TheVariants.{Ask}
@@ -9,10 +7,9 @@ use Rattle.board_items.specs.declared.history.Entry.{Entry}
 use Rattle.board_items.specs.Formed.{IsFormed, IsEdit}
 use Rattle.board_rules.specs.declared.design.Design.{Design}
 use Rattle.board_rules.specs.Designs.{IsSound}
-use Rattle.board_core.specs.declared.live.Live.{Live}
 use Rattle.board_core.specs.declared.board.Board.{Board}
-use Rattle.board_core.specs.Lives.{without, made_from, numbered}
-use Rattle.board_core.specs.Boards.{after, folded, first_board, last_board, IsBoardOf, taken_by, edited}
+use Rattle.board_core.specs.Lives.{without, made_from}
+use Rattle.board_core.specs.Boards.{after, folded, first_board, last_board, IsBoardOf, taken_by}
 use Rattle.board_rules.specs.FitAdds.{HasFitAdds}
 use Rattle.board_core.specs.Journals.{entry_of}
 use Rattle.board_core.proofs.Growing.{grown, first_fits, fewer_left, fewer_made, all_numbered}
@@ -64,6 +61,7 @@ accepted d m client number r board journal is formed edit fit n b j =
     b ∙ ap (λ (x : Board). after x (Ask r)) is.board ∙ sym (folded-append (first_board d.parts) m.journal (entry_of number client r ∷ [])) ∙ ap (last_board d.parts) (sym j) in
     record {
       master = record {
+        loaded = is.loaded;
         board = last;
         of = g.of;
         some = g.some;
@@ -76,19 +74,19 @@ accepted d m client number r board journal is formed edit fit n b j =
     }
 
 -- a master before the first request
-pub begun : (d : Design) (m : Master) → IsSound d.parts → d.parts.items ≡ [] → m.board ≡ first_board d.parts → m.journal ≡ [] → IsMaster d m
-begun d m sound none board journal =
+pub begun : (d : Design) (m : Master) → IsSound d.parts → length d.parts.items ≤ 200000 → m.board ≡ first_board d.parts → m.journal ≡ [] → IsMaster d m
+begun d m sound loaded board journal =
     let empty : length m.journal ≡ 0 = ap length journal in
-    let few : length d.parts.items ≡ 0 = ap length none in
     record {
+      loaded = loaded;
       board = board ∙ ap (last_board d.parts) (sym journal);
       of = subst (IsBoardOf d.parts) (sym board) (first_fits d.parts sound.items);
       some = omega (arith, ap (λ (b : Board). b.next_id) board);
-      next = omega (arith, ap (λ (b : Board). b.next_id) board, few);
+      next = omega (arith, ap (λ (b : Board). b.next_id) board);
       count = ap (λ (b : Board). b.count) board ∙ sym empty;
-      live = omega (arith, ap (λ (b : Board). length b.live) board, all_numbered 1 d.parts.items, few);
+      live = omega (arith, ap (λ (b : Board). length b.live) board, all_numbered 1 d.parts.items);
     }
 
 -- few items are live behind few entries
 pub few_live : (d : Design) (m : Master) → IsMaster d m → length m.journal ≤ 500 → length m.board.live < 2 ^ 32
-few_live d m is few = omega (arith, is.live)
+few_live d m is few = omega (arith, is.live, is.loaded)

@@ -13,3 +13,4 @@ pub mod Tells
 pub mod Tolds
 pub mod Unique
 pub mod Words
+pub mod Checked

@@ -1,8 +1,8 @@
 -- What a created file was given by pieces of a text.
-use Rattle.std.proofs.Common.{◌≡◌, ℕ, ◌+◌, ◌≤◌, List, [], ◌∷◌, ◌++◌, length, take, drop, min, Option, Some, None, refl, sym, ap, ◌∙◌, append_assoc, arith}
-use Rattle.std.proofs.lemmas.List.{append-nil, take-append-drop}
-use Rattle.layout_io.specs.Told.{Disk, Told, SameBut, bytes_of}
-use Rattle.layout_server.specs.Outside.{WroteFile, WroteFirst, WroteSome}
+use Rattle.std.proofs.Common.{◌≡◌, ℕ, List, ◌++◌, take, drop, Some, sym, ap, ◌∙◌, append_assoc}
+use Rattle.std.proofs.lemmas.List.{take-append-drop}
+use Rattle.layout_io.specs.Told.{Disk, bytes_of}
+use Rattle.layout_server.specs.Outside.{WroteFile, WroteFirst}
 use Rattle.layout_server.proofs.Files.{Gave}
 
 -- a whole piece more

@@ -1,13 +1,9 @@
 -- What a sink was given over several calls.
-use Rattle.std.proofs.Common.{◌≡◌, ℕ, ◌+◌, ◌<◌, ◌≤◌, Bool, false, true, List, [], ◌∷◌, ◌++◌, length, min, take, drop, Option, Some, None, Result, Ok, Err, refl, sym, ap, ◌∙◌, append_assoc, arith}
+use Rattle.std.proofs.Common.{◌≡◌, ℕ, ◌+◌, ◌≤◌, List, [], ◌++◌, length, min, take, Option, Some, None, refl, sym, ap, ◌∙◌, append_assoc, arith}
 use Rattle.std.specs.Io.KnownBytes.{Appends, Keeps}
-use Rattle.std.proofs.lemmas.List.{append-nil, take_at, take-append-drop, take-append-le, take_min}
+use Rattle.std.proofs.lemmas.List.{append-nil, take_at, take-append-le, take_min}
 use Rattle.std.proofs.Math.Seq.{take-append-add}
-use Rattle.layout_io.specs.Causes.{Rose, HasCause, RanOut}
-use Rattle.layout_io.specs.declared.fault.IoFault.{IoFault}
-use Rattle.layout_io.specs.declared.fault.IoFault.TheVariants.{Failed, Memory}
 use Rattle.layout_server.specs.Outside.{Begins}
-use Rattle.layout_server.specs.Headline.{Tells}
 
 pub appends_none : (o : Option (List ℕ)) → Appends o o []
 appends_none None = tt

@@ -1,12 +1,12 @@
 -- The first line of a script, and the lines so far.
-use Rattle.std.proofs.Common.{◌≡◌, ◌≢◌, ℕ, ◌+◌, ◌<◌, ◌≤◌, List, [], ◌∷◌, ◌++◌, length, refl, sym, ap, subst, ◌∙◌, append_assoc, arith, length-append, inl, inr}
+use Rattle.std.proofs.Common.{◌≡◌, ◌≢◌, ℕ, ◌<◌, ◌≤◌, List, [], ◌∷◌, ◌++◌, length, refl, sym, ap, ◌∙◌, append_assoc, arith, length-append, inl, inr}
 use Rattle.std.specs.List.{AllByRecursion, flat_map}
 use Rattle.session_wire.specs.declared.steps.ScriptStep.{ScriptStep}
 use Rattle.session_wire.specs.Lines.{step_text, step_line}
-use Rattle.session_wire.specs.Steps.{IsLine, IsStep, Reads}
+use Rattle.session_wire.specs.Steps.{IsLine, IsStep}
 use Rattle.session_wire.proofs.LineFeeds.{step_is_one_line}
 use Rattle.session_wire.proofs.StepTexts.{one_step}
-use Rattle.layout_server.specs.Scripts.{IsScript, IsFirstBad, IsBad, IsBadRest}
+use Rattle.layout_server.specs.Scripts.{IsScript, IsBad, IsBadRest}
 use Rattle.layout_server.specs.Lines.{HasNoStep}
 use Rattle.layout_server.proofs.Breaks.{one_line}
 

@@ -1,18 +1,15 @@
 -- What is stored of a run, over the calls of its storing.
-use Rattle.std.proofs.Common.{◌≡◌, ℕ, ◌<◌, ◌≤◌, List, [], length, take, Option, Some, None, refl, sym, ap, ◌∙◌, arith, inl, inr}
+use Rattle.std.proofs.Common.{◌≡◌, ℕ, List, [], length, take, Option, refl, arith, inl, inr}
 use Rattle.std.specs.Io.KnownBytes.{Appends}
 use Rattle.std.proofs.lemmas.List.{take_all}
 use Rattle.layout_io.specs.Told.{Disk, Told, IsCreated}
-use Rattle.layout_server.specs.Outside.{Begins, WroteFile, WroteFirst, WroteSome, SameFiles}
+use Rattle.layout_server.specs.Outside.{Begins, WroteFile, WroteFirst, WroteSome}
 use Rattle.layout_server.specs.Replays.{IsRunOf}
-use Rattle.layout_server.specs.Headline.{HasSession, HasFront, Untouched, OnlyMade, PartOfRun, Replays, HasInputs, HasDesign, HasSteps, StopCause, Leaves}
-use Rattle.layout_server.specs.Words.{Names, named}
-use Rattle.layout_server.specs.Loads.{IsLoaded}
-use Rattle.layout_server.specs.Stores.{Fronts, PartOf, StoreLeaves, Stores, WriteFault}
+use Rattle.layout_server.specs.Headline.{HasSession, HasFront}
+use Rattle.layout_server.specs.Stores.{Fronts, StoreLeaves, Stores}
 use Rattle.layout_server.specs.declared.load.Loaded.{Loaded}
 use Rattle.layout_server.proofs.Tolds.{told_same, told_weaker, told_then}
 use Rattle.layout_server.proofs.Files.{wrote_nothing, made_then_given, made_empty}
-use Rattle.layout_server.proofs.Sinks.{appends_none}
 
 -- the output's writing stopped: the session file stays
 pub front_of_output : (output session : List ℕ) (file : ℕ) (disk : Option Disk) (before now : Option (List ℕ)) → Begins output before now → Fronts output session file disk disk before now

@@ -1,5 +1,5 @@
 -- Lines that are written whole, but for a fault or want of memory.
-use Rattle.std.proofs.Common.{◌≡◌, ℕ, ◌≤◌, Bool, false, true, List, ◌++◌, Option, Result, Ok, Err, refl, sym, subst, ◌∙◌, arith}
+use Rattle.std.proofs.Common.{◌≡◌, ℕ, ◌≤◌, Bool, false, true, List, ◌++◌, Option, Result, Ok, Err, sym, subst, ◌∙◌, arith}
 use Rattle.std.specs.Prelude.{OnOk}
 use Rattle.std.specs.Io.KnownBytes.{Appends}
 use Rattle.layout_io.specs.Causes.{Rose, HasCause, RanOut}

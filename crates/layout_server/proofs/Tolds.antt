@@ -1,5 +1,5 @@
 -- What is told of the disk over several calls.
-use Rattle.std.proofs.Common.{◌≡◌, Option, Some, None, refl}
+use Rattle.std.proofs.Common.{Option, Some, None}
 use Rattle.layout_io.specs.Told.{Disk, Told}
 
 pub told_same : (o : Option Disk) (R : Disk → Disk → Type 0) → ((d : Disk) → R d d) → Told o o R

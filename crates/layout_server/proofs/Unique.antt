@@ -19,7 +19,7 @@ use Rattle.board_core.specs.declared.live.Live.{Live}
 use Rattle.board_core.specs.declared.board.Board.{Board}
 use Rattle.board_core.specs.Lives.{without}
 use Rattle.board_core.specs.Boards.{last_board}
-use Rattle.board_core.specs.Answers.{IsDeleteReason, IsDeletesReason, IsNearReason, IsClashReason, IsAnswer}
+use Rattle.board_core.specs.Answers.{IsDeletesReason, IsNearReason, IsClashReason, IsAnswer}
 use Rattle.board_core.specs.Journals.{IsAnswered, entry_of}
 use Rattle.session_wire.specs.declared.steps.ScriptStep.{ScriptStep}
 use Rattle.layout_server.specs.Scripts.{client_of, request_of}

@@ -2,9 +2,11 @@ pub mod Words
 pub mod Outside
 pub mod Scripts
 pub mod Lines
+pub mod Faults
 pub mod Masters
 pub mod Replays
 pub mod Causes
 pub mod Headline
+pub mod Checks
 pub mod Loads
 pub mod Stores

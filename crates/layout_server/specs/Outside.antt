@@ -1,5 +1,5 @@
 -- What reading and writing a whole file or text does.
-use Rattle.std.specs.Prelude.{◌≡◌, ℕ, ◌<◌, List, ◌++◌, length, take, Option, Some}
+use Rattle.std.specs.Prelude.{◌≡◌, ℕ, ◌<◌, ◌≤◌, List, ◌++◌, length, take, Option, Some}
 use Rattle.std.specs.Io.KnownBytes.{Appends}
 use Rattle.layout_io.specs.Told.{Disk, Told, SameBut, bytes_of}
 use Rattle.layout_server.specs.declared.outside.Found.{Found}
@@ -29,6 +29,11 @@ pub record HasMore (name : List ℕ) (most : ℕ) (d e : Disk) : Type 0 where
   pub bytes_are : bytes_of d.files name ≡ Some bytes
   pub more : most < length bytes
   pub files : e.files ≡ d.files
+
+-- whole bytes are at most so many
+abbrev pub IsWithin : ℕ → Found → Type 0
+IsWithin most (Whole bytes) = length bytes ≤ most
+IsWithin most Long = Unit {0}
 
 -- what a file was found to be
 abbrev pub IsFound : List ℕ → ℕ → Found → Disk → Disk → Type 0

@@ -1,5 +1,5 @@
 -- What a script is: lines of steps, at most 500 of them.
-use Rattle.std.specs.Prelude.{◌≡◌, ◌⊎◌, ℕ, ◌+◌, ◌<◌, ◌≤◌, List, [], ◌∷◌, ◌++◌, length}
+use Rattle.std.specs.Prelude.{◌≡◌, ◌⊎◌, ℕ, ◌+◌, ◌<◌, ◌≤◌, List, ◌++◌, length}
 use Rattle.std.specs.List.{flat_map, AllByRecursion}
 use Rattle.board_items.specs.declared.requests.Request.{Request}
 use Rattle.session_wire.specs.declared.steps.ScriptStep.{ScriptStep}

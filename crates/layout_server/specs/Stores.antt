@@ -1,5 +1,5 @@
 -- What of the two texts was stored.
-use Rattle.std.specs.Prelude.{◌≡◌, ◌⊎◌, ℕ, ◌<◌, List, [], length, take, Option}
+use Rattle.std.specs.Prelude.{◌≡◌, ◌⊎◌, ℕ, ◌<◌, List, length, take, Option}
 use Rattle.std.specs.Io.KnownBytes.{Appends}
 use Rattle.layout_io.specs.Told.{Disk, Told}
 use Rattle.layout_server.specs.Outside.{WroteFirst}
@@ -7,14 +7,15 @@ use Rattle.layout_server.specs.Replays.{IsRunOf}
 use Rattle.layout_server.specs.Headline.{HasSession, HasFront, Untouched, OnlyMade}
 use Rattle.layout_server.specs.declared.load.Loaded.{Loaded}
 use Rattle.layout_server.specs.declared.stop.Stop.{Stop}
-use Rattle.layout_server.specs.declared.stop.Stop.TheVariants.{Design, Read, Write, Script, Memory}
+use Rattle.layout_server.specs.declared.stop.Stop.TheVariants.{Design, Read, Write, Script, Unclean, Memory}
 
 -- why a text was not stored
 abbrev pub WriteFault : Stop → Type 0
-WriteFault Design = ⊥
+WriteFault (Design e) = ⊥
 WriteFault Read = ⊥
 WriteFault Write = Unit {0}
 WriteFault (Script k) = ⊥
+WriteFault (Unclean a b) = ⊥
 WriteFault Memory = Unit {0}
 
 -- fronts of both texts were written: the session's only behind the whole output

@@ -1,5 +1,5 @@
 -- The words of the command line.
-use Rattle.std.specs.Prelude.{◌≡◌, ℕ, List, [], ◌∷◌, ◌++◌, length, take, codes, slice_index_or, string_bytes, map}
+use Rattle.std.specs.Prelude.{◌≡◌, ℕ, List, [], ◌∷◌, ◌++◌, length, take, drop, codes, slice_index_or, string_bytes, map}
 use Rattle.std.specs.Prelude.{String}
 use Rattle.std.specs.declared.alloc.Global.{Global}
 
@@ -9,6 +9,15 @@ texts words = map string_bytes words
 
 abbrev pub text_at : List (List ℕ) → ℕ → List ℕ
 text_at words i = slice_index_or words i []
+
+-- the words behind the command
+abbrev pub names_behind : List (List ℕ) → List (List ℕ)
+names_behind words = drop 1 words
+
+-- the words are `check` and a name
+pub record IsCheck (words : List (List ℕ)) : Type 0 where
+  pub count : length words ≡ 2
+  pub command : text_at words 0 ≡ codes "check"
 
 -- the words are `replay` and three names
 pub record IsReplay (words : List (List ℕ)) : Type 0 where

@@ -3,17 +3,18 @@ ghost use Rattle.std.specs.Prelude.{◌≡◌, ◌++◌, ◌∷◌, [], ◌≤�
 ghost use Rattle.std.specs.List.{AllByRecursion};
 ghost use Rattle.layout_io.specs.Told.{Told};
 ghost use Rattle.layout_server.specs.Words.{Asked};
-ghost use Rattle.layout_server.specs.Outside.{IsFound, SameFiles};
+ghost use Rattle.layout_server.specs.Outside.{IsFound, IsWithin, SameFiles};
 ghost use Rattle.session_wire.specs.Steps.{IsStep};
 ghost use Rattle.layout_server.specs.Causes.{ReadCause};
-ghost use Rattle.layout_server.specs.Headline.{HasDesign, HasSteps};
-ghost use Rattle.layout_server.specs.Loads.{FileCause, DesignCause, ScriptCause, DesignStop, ScriptStop, LoadStop, GivesDesign, GivesSteps, IsToday, IsLoaded};
+ghost use Rattle.layout_server.specs.Headline.{HasDesign, HasClean, HasSteps, IsClean};
+ghost use Rattle.layout_server.specs.Loads.{FileCause, DesignCause, CleanCause, ScriptCause, DesignStop, ScriptStop, LoadStop, GivesDesign, GivesSteps, IsReadDesign, IsLoaded};
 
 use crate::outside::{Found, read_all};
 use crate::script::{SCRIPT_LIMIT, ScriptFault, read_script};
 use crate::stop::Stop;
+use board_core::clean;
 use board_rules::Design;
-use dsn_reader::{ReadWhy, read_design};
+use dsn_reader::{DesignFault, DesignKind, ReadWhy, read_design};
 use layout_io::{Files, IoFault};
 use session_wire::ScriptSteps;
 use std::alloc::Global;
@@ -31,6 +32,7 @@ pub struct Loaded {
 // All bytes of a file, unless there are too many, or why there are none.
 fn read_file<F: Files>(alloc: Global, files: &mut F, name: &str, most: usize) -> Result<Found, Stop>
     ensures found { IfOk result (λ found. Told (F.disk files.old) (F.disk files.new) (IsFound name.now most found)) }
+    ensures few { IfOk result (IsWithin most) }
     ensures asked { Asked (name.now ∷ []) (F.asked files.old) (F.asked files.new) }
     ensures asked_ok { OnOk result (F.asked files.new ≡ F.asked files.old ++ name.now ∷ []) }
     ensures kept { Told (F.disk files.old) (F.disk files.new) SameFiles }
@@ -46,17 +48,20 @@ fn read_file<F: Files>(alloc: Global, files: &mut F, name: &str, most: usize) ->
 }
 
 // The design that was found.
-#[tactic(auto, using(crate::proofs::Loads::today_of))]
+#[tactic(auto, using(crate::proofs::Loads::read_of))]
 fn design_of(alloc: Global, found: &Found) -> Result<Design, Stop>
     ensures ok { IfOk result (GivesDesign found.now) }
-    ensures today { IfOk result IsToday }
+    ensures limits { IfOk result IsReadDesign }
     ensures cause { IfErr result (DesignCause found.now) }
 {
     match found {
-        Found::Long => Err(Stop::Design),
+        Found::Long => Err(Stop::Design(DesignFault {
+            kind: DesignKind::Large,
+            at: 67_108_864,
+        })),
         Found::Whole(bytes) => match read_design(alloc, bytes.as_slice()) {
             Ok(design) => Ok(design),
-            Err(ReadWhy::Fault(_)) => Err(Stop::Design),
+            Err(ReadWhy::Fault(fault)) => Err(Stop::Design(fault)),
             Err(ReadWhy::Memory) => Err(Stop::Memory),
         },
     }
@@ -83,7 +88,7 @@ fn steps_of(alloc: Global, found: &Found) -> Result<ScriptSteps, Stop>
 #[tactic(auto, using(crate::proofs::Loads::told_design, crate::proofs::Loads::design_stop))]
 fn load_design<F: Files>(alloc: Global, files: &mut F, name: &str) -> Result<Design, Stop>
     ensures ok { IfOk result (λ design. Told (F.disk files.old) (F.disk files.new) (λ d e. HasDesign name.now design d)) }
-    ensures today { IfOk result IsToday }
+    ensures limits { IfOk result IsReadDesign }
     ensures cause { IfErr result (DesignStop name.now (F.disk files.old)) }
     ensures kept { Told (F.disk files.old) (F.disk files.new) SameFiles }
     ensures asked { Asked (name.now ∷ []) (F.asked files.old) (F.asked files.new) }
@@ -112,6 +117,35 @@ fn load_script<F: Files>(alloc: Global, files: &mut F, name: &str) -> Result<Scr
     steps_of(alloc, &found)
 }
 
+// Stops where two loaded items are too near.
+fn test_clean(design: &Design) -> Result<(), Stop>
+    requires { IsReadDesign design.now }
+    ensures ok { OnOk result (IsClean design.now) }
+    ensures cause { IfErr result (CleanCause design.now) }
+{
+    match clean(design) {
+        None => Ok(()),
+        Some((a, b)) => Err(Stop::Unclean(a.0, b.0)),
+    }
+}
+
+/// The design of the file under the name, where no two of its loaded items are too near.
+#[tactic(auto, using(crate::proofs::Loads::clean_read))]
+pub fn load_clean<F: Files>(alloc: Global, files: &mut F, name: &str) -> Result<Design, Stop>
+    ensures ok { IfOk result (λ design. Told (F.disk files.old) (F.disk files.new) (λ d e. HasClean name.now design d)) }
+    ensures limits { IfOk result IsReadDesign }
+    ensures cause { IfErr result (DesignStop name.now (F.disk files.old)) }
+    ensures kept { Told (F.disk files.old) (F.disk files.new) SameFiles }
+    ensures asked { Asked (name.now ∷ []) (F.asked files.old) (F.asked files.new) }
+    ensures asked_ok { OnOk result (F.asked files.new ≡ F.asked files.old ++ name.now ∷ []) }
+    ensures read { ReadCause (F.read_faults files.old) (F.read_faults files.new) result }
+    ensures write { F.write_faults files.new ≡ F.write_faults files.old }
+{
+    let design = load_design(alloc, files, name)?;
+    test_clean(&design)?;
+    Ok(design)
+}
+
 /// Reads the design and the script.
 #[tactic(auto, using(crate::proofs::Loads::both_inputs, crate::proofs::Loads::script_stop_behind, crate::proofs::Loads::design_stop_first))]
 pub fn load<F: Files>(
@@ -120,7 +154,7 @@ pub fn load<F: Files>(
     design: &str,
     script: &str,
 ) -> Result<Loaded, Stop>
-    ensures inputs { IfOk result (λ l. Told (F.disk files.old) (F.disk files.new) (λ d e. HasDesign design.now l.design d × HasSteps script.now l.steps d)) }
+    ensures inputs { IfOk result (λ l. Told (F.disk files.old) (F.disk files.new) (λ d e. HasClean design.now l.design d × HasSteps script.now l.steps d)) }
     ensures loaded { IfOk result IsLoaded }
     ensures cause { IfErr result (LoadStop design.now script.now (F.disk files.old)) }
     ensures kept { Told (F.disk files.old) (F.disk files.new) SameFiles }
@@ -129,7 +163,7 @@ pub fn load<F: Files>(
     ensures read { ReadCause (F.read_faults files.old) (F.read_faults files.new) result }
     ensures write { F.write_faults files.new ≡ F.write_faults files.old }
 {
-    let design = load_design(alloc, files, design)?;
+    let design = load_clean(alloc, files, design)?;
     let steps = load_script(alloc, files, script)?;
     Ok(Loaded { design, steps })
 }

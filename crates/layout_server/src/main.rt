@@ -1,6 +1,7 @@
-//! The layout server's program: `replay <dsn> <script> <ses>`.
+//! The layout server's program: `replay <dsn> <script> <ses>` and `check <dsn>`.
 #![tactic(auto)]
 
+mod check;
 mod laws;
 mod load;
 mod master;

@@ -154,7 +154,7 @@ pub fn serve<L: Ledger>(
     requires parts { blank.parts ≡ L.parts }
     requires some { 0 < blank.parts }
     requires design { IsSound design.now.parts }
-    requires none { design.now.parts.items ≡ [] }
+    requires loaded { length design.now.parts.items ≤ 200000 }
     requires formed { AllByRecursion IsStep script.now }
     requires few { length script.now ≤ 500 }
     ensures run { IfOk result (λ run. Serves design.now [] script.now run.answers run.master.journal) }

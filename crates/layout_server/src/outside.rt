@@ -4,7 +4,7 @@ ghost use Rattle.std.specs.Io.KnownBytes.{Appends};
 ghost use Rattle.layout_io.specs.Causes.{HasCause, RanOut};
 ghost use Rattle.layout_io.specs.Told.{Disk, Told};
 ghost use Rattle.layout_server.specs.Words.{Asked};
-ghost use Rattle.layout_server.specs.Outside.{SameFiles, ReadRest, ReadTo, IsFound, WroteFile, WroteSome, Begins};
+ghost use Rattle.layout_server.specs.Outside.{SameFiles, ReadRest, ReadTo, IsFound, IsWithin, WroteFile, WroteSome, Begins};
 
 use layout_io::{Bytes, Files, IoFault, Row, Sink};
 use std::alloc::Global;
@@ -23,6 +23,7 @@ fn read_some<F: Files>(files: &mut F, file: u32, bytes: &mut Bytes) -> Result<bo
     requires { F.reads files.old file }
     ensures more { IfOk result (λ ended. (piece : List ℕ) × (bytes.new ≡ bytes.old ++ piece) × Told (F.disk files.old) (F.disk files.new) (ReadRest file piece)) }
     ensures end { IfOk result (λ ended. ended ≡ true → Told (F.disk files.old) (F.disk files.new) (λ d e. e.left file ≡ [])) }
+    ensures last { IfOk result (λ ended. ended ≡ true → bytes.new ≡ bytes.old) }
     ensures kept { Told (F.disk files.old) (F.disk files.new) SameFiles }
     ensures reads { F.reads files.new file }
     ensures asked { F.asked files.new ≡ F.asked files.old }
@@ -44,6 +45,7 @@ fn read_rest<F: Files>(
 ) -> Result<Found, IoFault>
     requires { F.reads files.old file }
     ensures found { IfOk result (λ found. Told (F.disk files.old) (F.disk files.new) (ReadTo file most found)) }
+    ensures few { IfOk result (IsWithin most) }
     ensures kept { Told (F.disk files.old) (F.disk files.new) SameFiles }
     ensures asked { F.asked files.new ≡ F.asked files.old }
     ensures cause { HasCause (F.read_faults files.old) (F.read_faults files.new) result }
@@ -69,6 +71,7 @@ pub fn read_all<F: Files>(
     most: usize,
 ) -> Result<Found, IoFault>
     ensures found { IfOk result (λ found. Told (F.disk files.old) (F.disk files.new) (IsFound name.now most found)) }
+    ensures few { IfOk result (IsWithin most) }
     ensures kept { Told (F.disk files.old) (F.disk files.new) SameFiles }
     ensures asked { Asked (name.now ∷ []) (F.asked files.old) (F.asked files.new) }
     ensures asked_ok { OnOk result (F.asked files.new ≡ F.asked files.old ++ name.now ∷ []) }

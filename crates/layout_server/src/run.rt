@@ -3,10 +3,12 @@ ghost use Rattle.std.specs.Prelude.{◌≡◌, ◌≢◌, ◌≤◌, ◌⊎◌, 
 ghost use Rattle.layout_io.specs.Causes.{Rose};
 ghost use Rattle.board_rules.specs.declared.design.Design.{Design};
 ghost use Rattle.session_wire.specs.declared.steps.ScriptStep.{ScriptStep};
-ghost use Rattle.layout_server.specs.Words.{texts, names_in, IsReplay, Asked, three};
+ghost use Rattle.layout_server.specs.Words.{texts, text_at, names_in, names_behind, IsReplay, IsCheck, Asked, three};
 ghost use Rattle.layout_server.specs.Causes.{ReadCause, WriteCause};
+ghost use Rattle.layout_server.specs.Checks.{Checks, CheckLeaves, CheckCause, HasToldClean};
 ghost use Rattle.layout_server.specs.Headline.{Replays, StopCause, Leaves, Stops, Tells, IsStatus, HasToldInputs, counts};
 
+use crate::check::check;
 use crate::replay::replay;
 use crate::stop::Stop;
 use crate::tell::{tell, tell_stop};
@@ -18,6 +20,13 @@ fn is_replay(words: &[String]) -> bool
     ensures four { IsTrue result → length words.now ≡ 4 }
 {
     words.len() == 4 && words[0].as_str() == "replay"
+}
+
+fn is_check(words: &[String]) -> bool
+    ensures test { IsTrue result ↔ IsCheck (texts words.now) }
+    ensures two { IsTrue result → length words.now ≡ 2 }
+{
+    words.len() == 2 && words[0].as_str() == "check"
 }
 
 // Replays what the words name.
@@ -41,35 +50,103 @@ fn replay_words<F: Files, O: Sink>(
     replay(alloc, files, out, design, script, session)
 }
 
+// Tests the design that the words name.
+fn check_words<F: Files, O: Sink>(
+    alloc: Global,
+    words: &[String],
+    files: &mut F,
+    out: &mut O,
+) -> Result<(), Stop>
+    requires { length words.now ≡ 2 }
+    ensures ok { OnOk result (Checks (text_at (texts words.now) 1) (F.disk files.old) (F.disk files.new) (O.written out.old) (O.written out.new)) }
+    ensures left { IfErr result (CheckLeaves (text_at (texts words.now) 1) (F.disk files.old) (F.disk files.new) (O.written out.old) (O.written out.new)) }
+    ensures cause { IfErr result (CheckCause (text_at (texts words.now) 1) (F.disk files.old)) }
+    ensures asked { Asked (text_at (texts words.now) 1 ∷ []) (F.asked files.old) (F.asked files.new) }
+    ensures read { ReadCause (F.read_faults files.old) (F.read_faults files.new) result }
+    ensures write { WriteCause (F.write_faults files.old) (F.write_faults files.new) (O.faults out.old) (O.faults out.new) result }
+    ensures made { F.write_faults files.new ≡ F.write_faults files.old }
+{
+    check(alloc, files, out, words[1].as_str())
+}
+
+// As `run`, where the words are those of `replay`.
+fn run_replay<F: Files, O: Sink>(alloc: Global, words: &[String], files: &mut F, out: &mut O) -> u8
+    requires { length words.now ≡ 4 }
+    ensures statuses { IsStatus result }
+    ensures not_usage { result ≢ 1 }
+    ensures replayed { result ≡ 0 → Replays (names_in (texts words.now)) (F.disk files.old) (F.disk files.new) (O.written out.old) (O.written out.new) }
+    ensures stopped { 2 ≤ result → Stops (StopCause (names_in (texts words.now)) (F.disk files.old)) (Leaves (names_in (texts words.now)) (F.disk files.old) (F.disk files.new) (O.written out.old)) (O.written out.new) (counts (F.write_faults files.old) (F.write_faults files.new) (O.faults out.old) (O.faults out.new)) (O.ran_out out.new) result }
+    ensures read { result ≡ 3 → Rose (F.read_faults files.old) (F.read_faults files.new) }
+    ensures no_read_fault { result ≢ 3 → F.read_faults files.new ≡ F.read_faults files.old }
+    ensures write { result ≡ 4 → Rose (F.write_faults files.old) (F.write_faults files.new) ⊎ Rose (O.faults out.old) (O.faults out.new) }
+    ensures no_write_fault { result ≢ 4 → F.write_faults files.new ≡ F.write_faults files.old }
+    ensures no_out_fault { result ≡ 0 → O.faults out.new ≡ O.faults out.old }
+    ensures asked { Asked (names_behind (texts words.now)) (F.asked files.old) (F.asked files.new) }
+    ensures complete { (d : Design) (steps : List ScriptStep) → HasToldInputs (names_in (texts words.now)) d steps (F.disk files.old) → (Rose (F.read_faults files.old) (F.read_faults files.new) → ⊥) → (Rose (F.write_faults files.old) (F.write_faults files.new) → ⊥) → (Rose (O.faults out.old) (O.faults out.new) → ⊥) → (result ≡ 0) ⊎ (result ≡ 7) }
+{
+    match replay_words(alloc, words, files, out) {
+        Ok(()) => 0,
+        Err(stop) => tell_stop(stop, out),
+    }
+}
+
+// As `run`, where the words are those of `check`.
+fn run_check<F: Files, O: Sink>(alloc: Global, words: &[String], files: &mut F, out: &mut O) -> u8
+    requires { length words.now ≡ 2 }
+    ensures statuses { IsStatus result }
+    ensures not_usage { result ≢ 1 }
+    ensures checked { result ≡ 0 → Checks (text_at (texts words.now) 1) (F.disk files.old) (F.disk files.new) (O.written out.old) (O.written out.new) }
+    ensures stopped { 2 ≤ result → Stops (CheckCause (text_at (texts words.now) 1) (F.disk files.old)) (CheckLeaves (text_at (texts words.now) 1) (F.disk files.old) (F.disk files.new) (O.written out.old)) (O.written out.new) (counts (F.write_faults files.old) (F.write_faults files.new) (O.faults out.old) (O.faults out.new)) (O.ran_out out.new) result }
+    ensures read { result ≡ 3 → Rose (F.read_faults files.old) (F.read_faults files.new) }
+    ensures no_read_fault { result ≢ 3 → F.read_faults files.new ≡ F.read_faults files.old }
+    ensures write { result ≡ 4 → Rose (F.write_faults files.old) (F.write_faults files.new) ⊎ Rose (O.faults out.old) (O.faults out.new) }
+    ensures no_write_fault { result ≢ 4 → F.write_faults files.new ≡ F.write_faults files.old }
+    ensures no_out_fault { result ≡ 0 → O.faults out.new ≡ O.faults out.old }
+    ensures made { F.write_faults files.new ≡ F.write_faults files.old }
+    ensures asked { Asked (names_behind (texts words.now)) (F.asked files.old) (F.asked files.new) }
+    ensures complete { (d : Design) → HasToldClean (text_at (texts words.now) 1) d (F.disk files.old) → (Rose (F.read_faults files.old) (F.read_faults files.new) → ⊥) → (Rose (F.write_faults files.old) (F.write_faults files.new) → ⊥) → (Rose (O.faults out.old) (O.faults out.new) → ⊥) → (result ≡ 0) ⊎ (result ≡ 7) }
+{
+    match check_words(alloc, words, files, out) {
+        Ok(()) => 0,
+        Err(stop) => tell_stop(stop, out),
+    }
+}
+
 /// Does what the words say, and gives the exit status: 0 done, 1 wrong words, 2 the design has no
 /// reading, 3 an open or read failed, 4 a create or write failed, 5 a line of the script has no
-/// reading, 7 want of memory. Each but 0 writes a line of its own to `out`.
+/// reading, 6 two loaded items are too near, 7 want of memory. Each but 0 writes a line of its own to `out`.
+#[tactic(auto, using(crate::proofs::Words::one_form))]
 pub fn run<F: Files, O: Sink>(alloc: Global, words: &[String], files: &mut F, out: &mut O) -> u8
     // Status 1 exactly for the words, with its line.
-    ensures usage { result ≡ 1 → (IsReplay (texts words.now) → ⊥) × Tells (codes "usage\n") (O.written out.old) (O.written out.new) (O.faults out.old) (O.faults out.new) (O.ran_out out.new) }
-    ensures form { result ≢ 1 → IsReplay (texts words.now) }
+    ensures usage { result ≡ 1 → (IsReplay (texts words.now) → ⊥) × (IsCheck (texts words.now) → ⊥) × Tells (codes "usage\n") (O.written out.old) (O.written out.new) (O.faults out.old) (O.faults out.new) (O.ran_out out.new) }
+    ensures form { result ≢ 1 → IsReplay (texts words.now) ⊎ IsCheck (texts words.now) }
     ensures statuses { IsStatus result }
-    // At 0 the output and the session file are those of the script's steps, from the bytes of the design on.
-    ensures replayed { result ≡ 0 → Replays (names_in (texts words.now)) (F.disk files.old) (F.disk files.new) (O.written out.old) (O.written out.new) }
-    // From 2 on: 2 exactly for the design, 5 exactly for a line of the script, what was written, and the status's line.
-    ensures stopped { 2 ≤ result → Stops (names_in (texts words.now)) (F.disk files.old) (F.disk files.new) (O.written out.old) (O.written out.new) (counts (F.write_faults files.old) (F.write_faults files.new) (O.faults out.old) (O.faults out.new)) (O.ran_out out.new) result }
+    // `replay`: at 0 the output and the session file are those of the script's steps, from the bytes of the design on.
+    ensures replayed { IsReplay (texts words.now) → result ≡ 0 → Replays (names_in (texts words.now)) (F.disk files.old) (F.disk files.new) (O.written out.old) (O.written out.new) }
+    // From 2 on: why it stopped, what was written, and the status's line.
+    ensures stopped { IsReplay (texts words.now) → 2 ≤ result → Stops (StopCause (names_in (texts words.now)) (F.disk files.old)) (Leaves (names_in (texts words.now)) (F.disk files.old) (F.disk files.new) (O.written out.old)) (O.written out.new) (counts (F.write_faults files.old) (F.write_faults files.new) (O.faults out.old) (O.faults out.new)) (O.ran_out out.new) result }
+    // `check`: at 0 the output is the line of the design's loaded items, which are clean, and no file changed.
+    ensures checked { IsCheck (texts words.now) → result ≡ 0 → Checks (text_at (texts words.now) 1) (F.disk files.old) (F.disk files.new) (O.written out.old) (O.written out.new) }
+    ensures check_stopped { IsCheck (texts words.now) → 2 ≤ result → Stops (CheckCause (text_at (texts words.now) 1) (F.disk files.old)) (CheckLeaves (text_at (texts words.now) 1) (F.disk files.old) (F.disk files.new) (O.written out.old)) (O.written out.new) (counts (F.write_faults files.old) (F.write_faults files.new) (O.faults out.old) (O.faults out.new)) (O.ran_out out.new) result }
+    ensures check_made { IsCheck (texts words.now) → F.write_faults files.new ≡ F.write_faults files.old }
     // A fault only where a count rose, and none is passed over.
     ensures read { result ≡ 3 → Rose (F.read_faults files.old) (F.read_faults files.new) }
     ensures no_read_fault { result ≢ 3 → F.read_faults files.new ≡ F.read_faults files.old }
     ensures write { result ≡ 4 → Rose (F.write_faults files.old) (F.write_faults files.new) ⊎ Rose (O.faults out.old) (O.faults out.new) }
     ensures no_write_fault { result ≢ 4 → F.write_faults files.new ≡ F.write_faults files.old }
     ensures no_out_fault { result ≡ 0 → O.faults out.new ≡ O.faults out.old }
-    // No other file is touched.
-    ensures asked { Asked (three (names_in (texts words.now))) (F.asked files.old) (F.asked files.new) }
+    // No other file is touched: the names behind the command are asked for, in their order.
+    ensures asked { Asked (names_behind (texts words.now)) (F.asked files.old) (F.asked files.new) }
     // Inputs with a reading, and no count that rose, give 0, or want of memory.
     ensures complete { (d : Design) (steps : List ScriptStep) → IsReplay (texts words.now) → HasToldInputs (names_in (texts words.now)) d steps (F.disk files.old) → (Rose (F.read_faults files.old) (F.read_faults files.new) → ⊥) → (Rose (F.write_faults files.old) (F.write_faults files.new) → ⊥) → (Rose (O.faults out.old) (O.faults out.new) → ⊥) → (result ≡ 0) ⊎ (result ≡ 7) }
+    ensures check_complete { (d : Design) → IsCheck (texts words.now) → HasToldClean (text_at (texts words.now) 1) d (F.disk files.old) → (Rose (F.read_faults files.old) (F.read_faults files.new) → ⊥) → (Rose (F.write_faults files.old) (F.write_faults files.new) → ⊥) → (Rose (O.faults out.old) (O.faults out.new) → ⊥) → (result ≡ 0) ⊎ (result ≡ 7) }
 {
-    if !is_replay(words) {
-        tell(out, b"usage\n");
-        return 1;
+    if is_replay(words) {
+        return run_replay(alloc, words, files, out);
     }
-    match replay_words(alloc, words, files, out) {
-        Ok(()) => 0,
-        Err(stop) => tell_stop(stop, out),
+    if is_check(words) {
+        return run_check(alloc, words, files, out);
     }
+    tell(out, b"usage\n");
+    1
 }

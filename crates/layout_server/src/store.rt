@@ -32,8 +32,8 @@ fn make_file<F: Files>(files: &mut F, session: &str) -> Result<u32, Stop>
     }
 }
 
-// Writes the output.
-fn put_out<O: Sink>(out: &mut O, text: &[u8]) -> Result<(), Stop>
+/// Writes the output.
+pub fn put_out<O: Sink>(out: &mut O, text: &[u8]) -> Result<(), Stop>
     ensures ok { OnOk result (Appends (O.written out.old) (O.written out.new) text.now) }
     ensures begins { Begins text.now (O.written out.old) (O.written out.new) }
     ensures cause { CreateCause (O.faults out.old) (O.faults out.new) result }

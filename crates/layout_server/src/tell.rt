@@ -1,11 +1,13 @@
 //! The line of a status.
 ghost use Rattle.std.specs.Prelude.{◌≡◌, ◌≤◌, ◌++◌, codes, decimal};
 ghost use Rattle.layout_server.specs.Causes.{status_of, stop_line};
+ghost use Rattle.layout_server.specs.Faults.{kind_word};
 ghost use Rattle.layout_server.specs.Headline.{Tells};
-ghost use Rattle.layout_server.specs.declared.stop.Stop.TheVariants.{Script};
+ghost use Rattle.layout_server.specs.declared.stop.Stop.TheVariants.{Design, Unclean};
 
 use crate::outside::write_out;
 use crate::stop::Stop;
+use dsn_reader::{DesignFault, DesignKind};
 use itoa::Buffer;
 use layout_io::Sink;
 
@@ -41,6 +43,82 @@ fn tell_number<O: Sink>(out: &mut O, word: &[u8], number: u64)
     }
 }
 
+// The word of a fault's kind.
+fn kind_text(kind: DesignKind) -> &'static [u8]
+    ensures { result.now ≡ kind_word kind }
+{
+    match kind {
+        DesignKind::Unclosed => b"unclosed",
+        DesignKind::Unopened => b"unopened",
+        DesignKind::Quote => b"quote",
+        DesignKind::Deep => b"deep",
+        DesignKind::Large => b"large",
+        DesignKind::Form => b"form",
+        DesignKind::Missing => b"missing",
+        DesignKind::Twice => b"twice",
+        DesignKind::Name => b"name",
+        DesignKind::Unit => b"unit",
+        DesignKind::Number => b"number",
+        DesignKind::Range => b"range",
+        DesignKind::Width => b"width",
+        DesignKind::Angle => b"angle",
+        DesignKind::Layer => b"layer",
+        DesignKind::Arc => b"arc",
+        DesignKind::Polyline => b"polyline",
+        DesignKind::Square => b"square",
+        DesignKind::Window => b"window",
+        DesignKind::Shape => b"shape",
+        DesignKind::Points => b"points",
+        DesignKind::Style => b"style",
+        DesignKind::Later => b"later",
+    }
+}
+
+// Writes the kind and the byte of a fault, and the line's end.
+fn tell_kind<O: Sink>(out: &mut O, fault: DesignFault)
+    ensures line { Tells (kind_word fault.kind ++ (codes " " ++ (decimal fault.at ++ codes "\n"))) (O.written out.old) (O.written out.new) (O.faults out.old) (O.faults out.new) (O.ran_out out.new) }
+    ensures later { O.faults out.old ≤ O.faults out.new }
+{
+    match write_out(out, kind_text(fault.kind)) {
+        Ok(()) => tell_number(out, b" ", fault.at as u64),
+        Err(_) => {}
+    }
+}
+
+// Writes the line of a design's fault.
+fn tell_fault<O: Sink>(out: &mut O, fault: DesignFault)
+    ensures line { Tells (stop_line (Design fault)) (O.written out.old) (O.written out.new) (O.faults out.old) (O.faults out.new) (O.ran_out out.new) }
+    ensures later { O.faults out.old ≤ O.faults out.new }
+{
+    match write_out(out, b"design ") {
+        Ok(()) => tell_kind(out, fault),
+        Err(_) => {}
+    }
+}
+
+// Writes two numbers and the line's end.
+fn tell_pair<O: Sink>(out: &mut O, a: u32, b: u32)
+    ensures line { Tells (decimal a ++ (codes " " ++ (decimal b ++ codes "\n"))) (O.written out.old) (O.written out.new) (O.faults out.old) (O.faults out.new) (O.ran_out out.new) }
+    ensures later { O.faults out.old ≤ O.faults out.new }
+{
+    let mut buffer = Buffer::new();
+    match write_out(out, buffer.format(a).as_bytes()) {
+        Ok(()) => tell_number(out, b" ", b as u64),
+        Err(_) => {}
+    }
+}
+
+// Writes the line of two items that are too near.
+fn tell_unclean<O: Sink>(out: &mut O, a: u32, b: u32)
+    ensures line { Tells (stop_line (Unclean a b)) (O.written out.old) (O.written out.new) (O.faults out.old) (O.faults out.new) (O.ran_out out.new) }
+    ensures later { O.faults out.old ≤ O.faults out.new }
+{
+    match write_out(out, b"unclean ") {
+        Ok(()) => tell_pair(out, a, b),
+        Err(_) => {}
+    }
+}
+
 /// Writes the line of a stop, and gives its status.
 pub fn tell_stop<O: Sink>(stop: Stop, out: &mut O) -> u8
     ensures status { result ≡ status_of stop }
@@ -48,8 +126,8 @@ pub fn tell_stop<O: Sink>(stop: Stop, out: &mut O) -> u8
     ensures later { O.faults out.old ≤ O.faults out.new }
 {
     match stop {
-        Stop::Design => {
-            tell(out, b"design later 0\n");
+        Stop::Design(fault) => {
+            tell_fault(out, fault);
             2
         }
         Stop::Read => {
@@ -63,6 +141,10 @@ pub fn tell_stop<O: Sink>(stop: Stop, out: &mut O) -> u8
         Stop::Script(line) => {
             tell_number(out, b"script ", line);
             5
+        }
+        Stop::Unclean(a, b) => {
+            tell_unclean(out, a, b);
+            6
         }
         Stop::Memory => {
             tell(out, b"memory\n");

@@ -1,4 +1,7 @@
 use crate::run::run;
+use crate::stop::Stop;
+use crate::tell::tell_stop;
+use dsn_reader::{DesignFault, DesignKind};
 use layout_io::{MemFiles, MemSink};
 use std::alloc::{AllocError, Global};
 use std::test::Fail;
@@ -73,6 +76,50 @@ journal 3
 entry 1 1 edit 0 1 via 0 0 0 0
 entry 2 2 edit 0 1 via 1 0 0 800000
 entry 3 3 edit 0 1 via 0 0 1000000000 0
+";
+
+// A clearance of its own for wires against vias.
+const TYPED: &str =
+    "(pcb b.dsn (unit um) (structure (layer L1 (type signal)) (layer L2 (type signal)) (via V) (rule (width 100) (clearance 200) (clearance 50 (type wire_via)))) (library (padstack V (shape (circle L1 600)) (shape (circle L2 600)))) (network (net A) (net B) (net C)))";
+
+const BESIDE_VIAS: &str = "do 1 edit 0 1 wire 0 0 200000 2 0 0 1000000 0
+do 2 edit 0 1 via 1 0 500000 449999
+do 2 edit 0 1 via 1 0 500000 450000
+";
+
+const BESIDE_VIAS_OUTPUT: &str = "1 ok 1
+2 no clash 1 1
+2 ok 2
+journal 2
+entry 1 1 edit 0 1 wire 0 0 200000 2 0 0 1000000 0
+entry 2 2 edit 0 1 via 1 0 500000 450000
+";
+
+// A loaded wire that can't be deleted, one that can, and two loaded wires that cross.
+const FIXED: &str =
+    "(pcb s.dsn (unit um) (structure (layer L1 (type signal)) (rule (width 100) (clearance 200))) (network (net A)) (wiring (wire (path L1 200 0 0 1000 0) (net A) (type fix))))";
+
+const PROTECTED: &str =
+    "(pcb s.dsn (unit um) (structure (layer L1 (type signal)) (rule (width 100) (clearance 200))) (network (net A)) (wiring (wire (path L1 200 0 0 1000 0) (net A) (type protect))))";
+
+const CROSSED_NETS: &str =
+    "(pcb s.dsn (unit um) (structure (layer L1 (type signal)) (rule (width 100) (clearance 200))) (network (net A) (net B)) (wiring (wire (path L1 200 0 0 1000 1000) (net A)) (wire (path L1 200 0 1000 1000 0) (net B))))";
+
+const CROSSED_NET: &str =
+    "(pcb s.dsn (unit um) (structure (layer L1 (type signal)) (rule (width 100) (clearance 200))) (network (net A) (net B)) (wiring (wire (path L1 200 0 0 1000 1000) (net A)) (wire (path L1 200 0 1000 1000 0) (net A))))";
+
+// Vias whose padstack lies off its middle: the right end of the range, and a nanometre beyond it.
+const OFF_MIDDLE: &str =
+    "(pcb b.dsn (unit um) (structure (layer L1 (type signal)) (via V)) (library (padstack V (shape (circle L1 600 1 0)))) (network (net A)))";
+
+const AT_THE_END: &str = "do 1 edit 0 1 via 0 0 999999001 0
+do 1 edit 0 1 via 0 0 999999000 0
+";
+
+const AT_THE_END_OUTPUT: &str = "1 no range 1
+1 ok 1
+journal 1
+entry 1 1 edit 0 1 via 0 0 999999000 0
 ";
 
 const FIRST: &str = "do 1 edit 0 1 wire 0 0 250000 2 0 0 1000000 0\n";
@@ -181,7 +228,17 @@ fn statuses_have_their_lines(rt: HostRuntime) -> Result<(), Fail> {
             0,
             "1 ok 1\n2 no clash 1 1\njournal 1\nentry 1 1 edit 0 1 wire 0 0 250000 2 0 0 1000000 0\n",
         ),
-        ("(pcb s.dsn)", "", 2, "design later 0\n"),
+        ("(pcb s.dsn)", "", 2, "design missing 0\n"),
+        (TYPED, BESIDE_VIAS, 0, BESIDE_VIAS_OUTPUT),
+        (FIXED, "do 1 edit 1 1 0\n", 0, "1 no fixed 1\njournal 0\n"),
+        (
+            PROTECTED,
+            "do 1 edit 1 1 0\n",
+            0,
+            "1 ok 1\njournal 1\nentry 1 1 edit 1 1 0\n",
+        ),
+        (CROSSED_NETS, "", 6, "unclean 1 2\n"),
+        (OFF_MIDDLE, AT_THE_END, 0, AT_THE_END_OUTPUT),
         (DESIGN, "do 9 edit 0 0\n", 5, "script 1\n"),
         (DESIGN, "do 1 edit 1 01 0\n", 5, "script 1\n"),
         (
@@ -203,6 +260,8 @@ fn statuses_have_their_lines(rt: HostRuntime) -> Result<(), Fail> {
     }
     for words in [
         ["replay", "a"].as_slice(),
+        ["check"].as_slice(),
+        ["check", "a", "b"].as_slice(),
         ["make", "a", "b", "c"].as_slice(),
     ] {
         let mut files = files_of(alloc, DESIGN, SCRIPT)?;
@@ -275,5 +334,87 @@ fn each_call_of_the_files_fails_in_turn(rt: HostRuntime) -> Result<(), Fail> {
     assert_eq!(rt; run(alloc, &replay_words(alloc)?, &mut files, &mut out), 4);
     assert_eq!(rt; out.written(), b"write\n".as_slice());
     assert_eq!(rt; session_of(&files), b"".as_slice());
+    Ok(())
+}
+
+fn check_words(alloc: Global) -> Result<Vec<String>, AllocError> {
+    words_of(alloc, &["check", "s.dsn"])
+}
+
+// By hand: designs without loaded items and with two of them, and faults at the byte where they show.
+#[test]
+fn check_tells_how_many_items_are_loaded(rt: HostRuntime) -> Result<(), Fail> {
+    let alloc = rt.alloc();
+    for (design, status, output) in [
+        (DESIGN, 0, "clean 0\n"),
+        (LAYERS, 0, "clean 0\n"),
+        (FIXED, 0, "clean 1\n"),
+        (CROSSED_NETS, 6, "unclean 1 2\n"),
+        (CROSSED_NET, 0, "clean 2\n"),
+        ("(pcb p (unit um", 2, "design unclosed 7\n"),
+        ("(pcb p (unit um)))", 2, "design unopened 17\n"),
+        ("(pcb s.dsn)", 2, "design missing 0\n"),
+    ] {
+        let mut files = files_of(alloc, design, SCRIPT)?;
+        let mut out = MemSink::new(alloc);
+        let got = run(alloc, &check_words(alloc)?, &mut files, &mut out);
+        assert_eq!(rt; got, status, "{design}");
+        assert_eq!(rt; out.written(), output.as_bytes(), "{design}");
+        assert!(rt; files.bytes_of("s.ses").is_none(), "{design}");
+    }
+    Ok(())
+}
+
+// The open and two reads are calls 1 to 3; the one write of the line is the sink's first.
+#[test]
+fn each_call_of_check_fails_in_turn(rt: HostRuntime) -> Result<(), Fail> {
+    let alloc = rt.alloc();
+    for call in 1..5 {
+        let mut files = files_of(alloc, DESIGN, SCRIPT)?;
+        files.fail_read(call)?;
+        let mut out = MemSink::new(alloc);
+        let status = run(alloc, &check_words(alloc)?, &mut files, &mut out);
+        let (want, line) = if call < 4 {
+            (3, "read\n")
+        } else {
+            (0, "clean 0\n")
+        };
+        assert_eq!(rt; status, want, "call {call}");
+        assert_eq!(rt; out.written(), line.as_bytes(), "call {call}");
+    }
+    let mut files = files_of(alloc, DESIGN, SCRIPT)?;
+    let mut out = MemSink::new(alloc);
+    out.fail_write(1)?;
+    assert_eq!(rt; run(alloc, &check_words(alloc)?, &mut files, &mut out), 4);
+    assert_eq!(rt; out.written(), b"write\n".as_slice());
+    let mut none = MemFiles::new(alloc);
+    let mut told = MemSink::new(alloc);
+    assert_eq!(rt; run(alloc, &check_words(alloc)?, &mut none, &mut told), 3);
+    assert_eq!(rt; told.written(), b"read\n".as_slice());
+    Ok(())
+}
+
+fn fault(kind: DesignKind, at: u32) -> Stop {
+    Stop::Design(DesignFault { kind, at })
+}
+
+// By hand, from the table of statuses.
+#[test]
+fn stops_have_their_lines(rt: HostRuntime) -> Result<(), Fail> {
+    let alloc = rt.alloc();
+    for (stop, status, line) in [
+        (fault(DesignKind::Angle, 96), 2, "design angle 96\n"),
+        (
+            fault(DesignKind::Large, 67_108_864),
+            2,
+            "design large 67108864\n",
+        ),
+        (Stop::Script(7), 5, "script 7\n"),
+        (Stop::Unclean(1, 12), 6, "unclean 1 12\n"),
+    ] {
+        let mut out = MemSink::new(alloc);
+        assert_eq!(rt; tell_stop(stop, &mut out), status, "{line}");
+        assert_eq!(rt; out.written(), line.as_bytes(), "{line}");
+    }
     Ok(())
 }

@@ -3,7 +3,7 @@ ghost use Rattle.std.specs.Prelude.{◌≡◌, ◌++◌, ◌∷◌, [], ◌≤�
 ghost use Rattle.std.specs.List.{flat_map, AllByRecursion};
 ghost use Rattle.session_wire.specs.Steps.{IsStep};
 ghost use Rattle.session_wire.specs.Lines.{entry_line};
-ghost use Rattle.layout_server.specs.Loads.{IsToday};
+ghost use Rattle.layout_server.specs.Loads.{IsReadDesign};
 ghost use Rattle.layout_server.specs.Replays.{answer_line, count_line, output_of, IsRunOf};
 
 use crate::master::{Answered, serve};
@@ -73,7 +73,7 @@ fn output_text(alloc: Global, answers: &[Answered], journal: &[Entry]) -> Result
 /// Answers the steps of a script, and writes what comes of it.
 #[tactic(auto, using(crate::proofs::Journals::few_live))]
 pub fn texts_of(alloc: Global, design: &Design, script: &ScriptSteps) -> Result<Texts, AllocError>
-    requires design { IsToday design.now }
+    requires design { IsReadDesign design.now }
     requires formed { AllByRecursion IsStep script.now }
     requires few { length script.now ≤ 500 }
     ensures { IfOk result (λ texts. IsRunOf design.now script.now texts.output texts.session) }

@@ -1,4 +1,4 @@
-use Rattle.std.proofs.Common.{◌≡◌, ◌++◌, sym, ◌∙◌, take, ap, subst, List, ℕ}
+use Rattle.std.proofs.Common.{◌≡◌, ◌++◌, sym, ◌∙◌, take, subst}
 use Rattle.layout_io.specs.Told.{Disk, IsWritten}
 use Rattle.layout_server.proofs.Tolds.{told_then}
 use Rattle.layout_server.proofs.Files.{Gave, gave_more, gave_some, split_here}

@@ -1,4 +1,4 @@
-use Rattle.std.proofs.Common.{◌≡◌, ◌++◌, sym, ◌∙◌, take, ap, List, ℕ}
+use Rattle.std.proofs.Common.{◌≡◌, ◌++◌, ◌∙◌, take}
 use Rattle.layout_server.proofs.Sinks.{wrote_front, wrote_kept, wrote_more}
 use Rattle.layout_server.proofs.Files.{split_here}
 use Rattle.layout_server.proofs.outside.write_out.Goals as goal

@@ -1,5 +1,4 @@
-use Rattle.std.proofs.Common.{◌≡◌}
-use Rattle.std.specs.Prelude.{None, IfNone}
+use Rattle.std.specs.Prelude.{IfNone}
 use Rattle.session_wire.specs.declared.steps.ScriptStep.{ScriptStep}
 use Rattle.session_wire.specs.Steps.{Reads}
 use Rattle.layout_server.proofs.Steps.{no_step}

@@ -1,5 +1,4 @@
-use Rattle.std.proofs.Common.{◌≡◌, ◌++◌, sym, ◌∙◌, take, drop, ap, subst, List, ℕ}
-use Rattle.layout_io.specs.Told.{Disk}
+use Rattle.std.proofs.Common.{◌≡◌, ◌++◌, ◌∙◌, take, drop}
 use Rattle.layout_server.specs.Outside.{WroteFile, WroteFirst}
 use Rattle.layout_server.proofs.Tolds.{told_then}
 use Rattle.layout_server.proofs.Files.{Gave, gave_some}

@@ -1,0 +1,113 @@
+-- The classes and nets of a design are those that are assembled.
+use Rattle.std.proofs.Common.{◌≡◌, ℕ, zero, suc, ◌-◌, List, [], ◌∷◌, ◌++◌, map, length, Option, Some, None, option_to_list, refl, sym, ap, ◌∙◌, append_assoc, arith}
+use Rattle.std.specs.Prelude.{slice_get}
+use Rattle.std.specs.Option.{option_map}
+use Rattle.std.proofs.lemmas.List.{append-nil}
+use Rattle.board_rules.specs.declared.design.ClassRow.{ClassRow}
+use Rattle.board_rules.specs.declared.design.NetRow.{NetRow}
+use Rattle.board_rules.specs.declared.design.Parts.{Parts}
+use Rattle.seg_geometry.specs.declared.points.Pt.{Pt}
+use Rattle.dsn_lists.specs.declared.marks.Mark.{Mark}
+use Rattle.dsn_lists.specs.declared.rules.Rule.{Rule}
+use Rattle.dsn_lists.specs.Names.{place_of}
+use Rattle.dsn_lists.specs.Lists.{last_of}
+use Rattle.dsn_structure.specs.declared.structure.Structure.{Structure}
+use Rattle.dsn_library.specs.declared.classes.Class.{Class}
+use Rattle.dsn_reader.specs.Assembly.{with_number, numbers_of, held_vias, last_vias, class_row, class_rows, all_classes, net_row, row_at, net_rows, Gathered, assembled}
+use Rattle.dsn_reader.specs.Rows.{numbers_by_place, row_of, row_of_class, rows_of_classes, rows_of_nets, laid_out}
+
+-- ---- classes
+
+with_is : (ids : List ℕ) (o : Option ℕ) → with_number ids o ≡ ids ++ option_to_list o
+with_is ids None = sym (append-nil ids)
+with_is ids (Some n) = refl
+
+numbers_are : (names : List (List ℕ)) (ids : List ℕ) (ms : List Mark) → numbers_of names ids ms ≡ ids ++ numbers_by_place names ms
+unfolding numbers_of
+numbers_are names ids [] = sym (append-nil ids)
+numbers_are names ids (m ∷ ms) =
+    numbers_are names (with_number ids (place_of names m.name)) ms
+    ∙ ap (λ (xs : List ℕ). xs ++ numbers_by_place names ms) (with_is ids (place_of names m.name))
+    ∙ append_assoc ids (option_to_list (place_of names m.name)) (numbers_by_place names ms)
+
+last_got : {A : Type 0} (o : Option A) (x : A) (xs : List A) → slice_get (x ∷ xs) (length xs) ≡ last_of o (map Some (x ∷ xs))
+last_got o x [] = refl
+last_got o x (y ∷ xs) = last_got (Some x) y xs
+
+one_less : (n : ℕ) → suc n - 1 ≡ n
+one_less n = omega arith
+
+last_is : (names : List (List ℕ)) (lists : List (List Mark)) → last_vias names lists ≡ option_map (numbers_by_place names) (last_of None (map Some lists))
+unfolding last_vias
+last_is names [] = refl
+last_is names (ms ∷ lists) =
+    ap (λ (n : ℕ). held_vias names (slice_get (ms ∷ lists) n)) (one_less (length lists))
+    ∙ ap (held_vias names) (last_got None ms lists)
+    ∙ held_is (last_of None (map Some (ms ∷ lists)))
+  where
+    held_is : (o : Option (List Mark)) → held_vias names o ≡ option_map (numbers_by_place names) o
+    held_is None = refl
+    held_is (Some xs) = ap (λ (ids : List ℕ). Some ids) (numbers_are names [] xs)
+
+row_is : (names : List (List ℕ)) (name : List ℕ) (lists : List (List Mark)) (rule : Rule) → class_row names name lists rule ≡ row_of names name lists rule
+row_is names name lists rule = ap (λ (o : Option (List ℕ)). record { name = name; width = rule.width; vias = o; clearances = rule.stated }) (last_is names lists)
+
+rows_are : (names : List (List ℕ)) (rows : List ClassRow) (cs : List Class) → class_rows names rows cs ≡ rows ++ map (row_of_class names) cs
+unfolding class_rows
+rows_are names rows [] = sym (append-nil rows)
+rows_are names rows (c ∷ cs) =
+    rows_are names (rows ++ class_row names c.name c.vias c.rule ∷ []) cs
+    ∙ ap (λ (r : ClassRow). (rows ++ r ∷ []) ++ map (row_of_class names) cs) (row_is names c.name c.vias c.rule)
+    ∙ append_assoc rows (row_of_class names c ∷ []) (map (row_of_class names) cs)
+
+-- the rows that are assembled are those of the classes
+pub classes_are : (names : List (List ℕ)) (s : Structure) (cs : List Class) → all_classes names s cs ≡ rows_of_classes names s cs
+classes_are names s cs =
+    rows_are names (class_row names [] s.vias s.rule ∷ []) cs
+    ∙ ap (λ (r : ClassRow). r ∷ map (row_of_class names) cs) (row_is names [] s.vias s.rule)
+
+-- ---- nets
+
+nets_none : (n : ℕ) (name : List ℕ) (names : List (List ℕ)) → net_rows (suc n) (name ∷ names) [] ≡ net_row name 0 ∷ net_rows n names []
+unfolding net_rows
+nets_none zero name names = refl
+nets_none (suc n) name names = ap (λ (rs : List NetRow). rs ++ row_at (slice_get names n) None ∷ []) (nets_none n name names)
+
+nets_more : (n : ℕ) (name : List ℕ) (names : List (List ℕ)) (c : ℕ) (cs : List ℕ) → net_rows (suc n) (name ∷ names) (c ∷ cs) ≡ net_row name c ∷ net_rows n names cs
+unfolding net_rows
+nets_more zero name names c cs = refl
+nets_more (suc n) name names c cs = ap (λ (rs : List NetRow). rs ++ row_at (slice_get names n) (slice_get cs n) ∷ []) (nets_more n name names c cs)
+
+-- the rows that are assembled are those of the nets
+pub nets_are : (names : List (List ℕ)) (cs : List ℕ) → net_rows (length names) names cs ≡ rows_of_nets names cs
+unfolding net_rows
+nets_are [] cs = refl
+nets_are (name ∷ names) [] = nets_none (length names) name names ∙ ap (λ (rs : List NetRow). net_row name 0 ∷ rs) (nets_are names [])
+nets_are (name ∷ names) (c ∷ cs) = nets_more (length names) name names c cs ∙ ap (λ (rs : List NetRow). net_row name c ∷ rs) (nets_are names cs)
+
+-- ---- the design
+
+abbrev parts_with : Gathered → List (List ℕ) → List NetRow → List ClassRow → List (List Pt) → Parts
+parts_with g layers nets classes outline = record {
+  name = g.name;
+  layers = layers;
+  stacks = g.library.stacks;
+  nets = nets;
+  classes = classes;
+  outline = outline;
+  items = g.wiring.items;
+}
+
+-- what is made of the rows is the design
+pub laid_by : (g : Gathered) (layers : List (List ℕ)) (numbers : List ℕ) (nets : List NetRow) (classes : List ClassRow) (outline : List (List Pt))
+    → layers ≡ g.structure.layers → numbers ≡ g.numbers → nets ≡ net_rows (length g.nets) g.nets numbers → classes ≡ all_classes g.library.names g.structure g.classes → outline ≡ []
+    → parts_with g layers nets classes outline ≡ laid_out g
+laid_by g layers numbers nets classes outline same_layers same_numbers same_nets same_classes none =
+    ap (λ (x : List (List ℕ)). parts_with g x nets classes outline) same_layers
+    ∙ ap (λ (x : List NetRow). parts_with g g.structure.layers x classes outline) (same_nets ∙ ap (net_rows (length g.nets) g.nets) same_numbers ∙ nets_are g.nets g.numbers)
+    ∙ ap (λ (x : List ClassRow). parts_with g g.structure.layers (rows_of_nets g.nets g.numbers) x outline) (same_classes ∙ classes_are g.library.names g.structure g.classes)
+    ∙ ap (parts_with g g.structure.layers (rows_of_nets g.nets g.numbers) (rows_of_classes g.library.names g.structure g.classes)) none
+
+-- the design that is assembled is that of what was stated
+pub assembled_is : (g : Gathered) → assembled g ≡ laid_out g
+assembled_is g = laid_by g g.structure.layers g.numbers (net_rows (length g.nets) g.nets g.numbers) (all_classes g.library.names g.structure g.classes) [] refl refl refl refl refl

@@ -1,0 +1,229 @@
+//! The section that says what wiring is there.
+ghost use Rattle.std.specs.Prelude.{◌≡◌, ◌≤◌, length, IfOk, IfErr, Ok, Err};
+ghost use Rattle.sexp_text.specs.Shows.{forest};
+ghost use Rattle.sexp_text.specs.Trees.{tree_forest};
+ghost use Rattle.dsn_lists.specs.Results.{Gives, each};
+ghost use Rattle.dsn_lists.specs.Pcbs.{spotted};
+ghost use Rattle.dsn_lists.specs.declared.faults.DesignFault.{DesignFault};
+ghost use Rattle.dsn_reader.specs.Wirings.{Netted, netted, less, with_item, wiring_word, wiring_item, wiring_at, wiring_of};
+ghost use Rattle.dsn_reader.specs.Meaning.{HasWiring, WiringFault, WhyNot};
+
+use crate::vias::read_via;
+use crate::wires::read_wire;
+use board_items::{Item, Items};
+use dsn_library::{Library, Network};
+use dsn_lists::{
+    DesignKind, NameSet, Place, ReadWhy, Section, fault, is_word, opening, section_of, title_of,
+    unit_at, unit_for,
+};
+use dsn_structure::Structure;
+use row_lists::Row;
+use sexp_text::{Cursor, Part, Tree, Unit, front};
+use std::alloc::Global;
+
+/// How many items a design may have.
+const ITEMS: usize = 200_000;
+
+/// How many points the shapes of all its items may have.
+const POINTS: u32 = 4_000_000;
+
+/// The wiring of a design.
+#[derive(Debug, Drop)]
+pub struct Wiring {
+    /// The wires and vias, at most 200,000, in the order of the text.
+    pub items: Items,
+    /// How many points their shapes may still have.
+    pub left: u32,
+}
+
+// What a list of the section is.
+#[derive(Clone, Copy, Debug)]
+enum WiringWord {
+    Wire,
+    Via,
+    Unit,
+    Resolution,
+    Other,
+}
+
+/// How many points may still come behind so many; none where there are too many.
+pub fn room_behind(left: u32, count: usize) -> Option<u32>
+    ensures { result ≡ less left count }
+{
+    if (left as usize) < count {
+        return None;
+    }
+    Some(left - count as u32)
+}
+
+/// Puts an item behind the others, where there is room for it and its points. Else the fault `Large` at the byte.
+pub fn put_item(wiring: &mut Wiring, at: u32, item: Item, left: Option<u32>) -> Result<(), ReadWhy>
+    ensures { Gives (λ _. wiring.new) result (with_item at wiring.old item left) }
+{
+    let Some(left) = left else {
+        return Err(ReadWhy::from(fault(DesignKind::Large, at)));
+    };
+    if wiring.items.len() >= ITEMS {
+        return Err(ReadWhy::from(fault(DesignKind::Large, at)));
+    }
+    wiring.items.push(item)?;
+    wiring.left = left;
+    Ok(())
+}
+
+#[tactic(auto, unfolding(crate::specs::Wirings::wiring_word))]
+fn wiring_word(text: &[u8]) -> WiringWord
+    ensures { result ≡ wiring_word text.now }
+{
+    if is_word(text, b"wire") {
+        return WiringWord::Wire;
+    }
+    if is_word(text, b"via") {
+        return WiringWord::Via;
+    }
+    if is_word(text, b"unit") {
+        return WiringWord::Unit;
+    }
+    if is_word(text, b"resolution") {
+        return WiringWord::Resolution;
+    }
+    WiringWord::Other
+}
+
+#[tactic(auto, unfolding(crate::specs::Wirings::wiring_item))]
+fn read_list(
+    alloc: Global,
+    unit: Unit,
+    layers: &NameSet,
+    library: &Library,
+    nets: &mut NameSet,
+    wiring: &mut Wiring,
+    at: u32,
+    inside: Cursor<'_>,
+) -> Result<(), ReadWhy>
+    requires layers { length layers.now ≤ 32 }
+    requires stacks { length library.now.names ≤ 65535 }
+    requires nets { length nets.old ≤ 100000 }
+    ensures wiring { Gives (λ _. netted nets.new wiring.new) result (wiring_item unit layers.now library.now (netted nets.old wiring.old) at (forest inside.entry)) }
+    ensures few { length nets.new ≤ 100000 }
+{
+    let head = opening(inside);
+    match wiring_word(head.text) {
+        WiringWord::Wire => read_wire(alloc, unit, layers, nets, wiring, at, head.args),
+        WiringWord::Via => read_via(alloc, unit, library, nets, wiring, at, head.args),
+        WiringWord::Unit => {
+            unit_at(at, head.args)?;
+            Ok(())
+        }
+        WiringWord::Resolution => Err(ReadWhy::from(fault(DesignKind::Unit, head.at))),
+        WiringWord::Other => Ok(()),
+    }
+}
+
+#[tactic(auto, unfolding(dsn_lists::specs::Results::each))]
+fn read_lists(
+    alloc: Global,
+    unit: Unit,
+    layers: &NameSet,
+    library: &Library,
+    nets: &mut NameSet,
+    wiring: &mut Wiring,
+    list: Cursor<'_>,
+) -> Result<(), ReadWhy>
+    requires layers { length layers.now ≤ 32 }
+    requires stacks { length library.now.names ≤ 65535 }
+    requires nets { length nets.old ≤ 100000 }
+    ensures wiring { Gives (λ _. netted nets.new wiring.new) result (each (wiring_item unit layers.now library.now) (netted nets.old wiring.old) (forest list.entry)) }
+    ensures few { length nets.new ≤ 100000 }
+{
+    let mut rest = list;
+    'lists: loop {
+        match front(rest) {
+            Part::End => return Ok(()),
+            Part::Word { at, .. } => return Err(ReadWhy::from(fault(DesignKind::Form, at))),
+            Part::List {
+                at,
+                inside,
+                rest: after,
+            } => {
+                read_list(alloc, unit, layers, library, nets, wiring, at, inside)?;
+                rest = after;
+            }
+        }
+    }
+}
+
+#[tactic(auto, unfolding(crate::specs::Wirings::wiring_at))]
+fn wiring_at(
+    alloc: Global,
+    unit: Unit,
+    layers: &NameSet,
+    library: &Library,
+    nets: &mut NameSet,
+    place: Place<'_>,
+) -> Result<Wiring, ReadWhy>
+    requires layers { length layers.now ≤ 32 }
+    requires stacks { length library.now.names ≤ 65535 }
+    requires nets { length nets.old ≤ 100000 }
+    ensures wiring { Gives (λ w. netted nets.new w) result (wiring_at unit layers.now library.now nets.old (spotted place.entry)) }
+    ensures few { length nets.new ≤ 100000 }
+{
+    let unit = unit_for(unit, place.args);
+    let mut wiring = Wiring {
+        items: Row::new(alloc),
+        left: POINTS,
+    };
+    read_lists(alloc, unit, layers, library, nets, &mut wiring, place.args)?;
+    Ok(wiring)
+}
+
+/// The wiring of a design, or the first fault of the design itself or of the section. The structure, the library and
+/// the network are the design's. Nets that the network doesn't have are put behind its nets, in the order of their
+/// first use; after an `Err` some of them may be there.
+pub fn read_wiring(
+    alloc: Global,
+    tree: &Tree,
+    structure: &Structure,
+    library: &Library,
+    network: &mut Network,
+) -> Result<Wiring, ReadWhy>
+    requires layers { length structure.now.layers ≤ 32 }
+    requires stacks { length library.now.names ≤ 65535 }
+    requires nets { length network.old.nets ≤ 100000 }
+    ensures read { Gives (λ w. netted network.new.nets w) result (wiring_of (tree_forest tree.now) structure.now.layers library.now network.old.nets) }
+    // What is read is the wiring of the design, with its nets, and a design that has one is read.
+    ensures found { IfOk result (λ w. HasWiring (tree_forest tree.now) structure.now.layers library.now network.old.nets (netted network.new.nets w)) }
+    ensures only { (x : Netted Wiring) → HasWiring (tree_forest tree.now) structure.now.layers library.now network.old.nets x → Gives (λ w. netted network.new.nets w) result (Ok x) }
+    // What is told is the first fault, and the first fault is told.
+    ensures fault { IfErr result (WhyNot (tree_forest tree.now) structure.now.layers library.now network.old.nets) }
+    ensures first { (e : DesignFault) → WiringFault (tree_forest tree.now) structure.now.layers library.now network.old.nets e → Gives (λ w. netted network.new.nets w) result (Err e) }
+    ensures classes { network.new.classes ≡ network.old.classes }
+{
+    section(alloc, tree, structure, library, network)
+}
+
+#[tactic(auto, unfolding(crate::specs::Wirings::wiring_of))]
+fn section(
+    alloc: Global,
+    tree: &Tree,
+    structure: &Structure,
+    library: &Library,
+    network: &mut Network,
+) -> Result<Wiring, ReadWhy>
+    requires layers { length structure.now.layers ≤ 32 }
+    requires stacks { length library.now.names ≤ 65535 }
+    requires nets { length network.old.nets ≤ 100000 }
+    ensures read { Gives (λ w. netted network.new.nets w) result (wiring_of (tree_forest tree.now) structure.now.layers library.now network.old.nets) }
+    ensures classes { network.new.classes ≡ network.old.classes }
+{
+    let title = title_of(alloc, tree)?;
+    let place = section_of(tree, Section::Wiring);
+    wiring_at(
+        alloc,
+        title.unit,
+        &structure.layers,
+        library,
+        &mut network.nets,
+        place,
+    )
+}

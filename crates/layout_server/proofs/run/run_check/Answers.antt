@@ -1,0 +1,17 @@
+use Rattle.std.proofs.Common.{inr, ◌∙◌}
+use Rattle.layout_server.specs.Words.{texts, text_at}
+use Rattle.layout_server.proofs.Checked.{memory_alone}
+use Rattle.layout_server.proofs.Words.{asked_one}
+use Rattle.layout_server.proofs.run.run_check.Goals as goal
+
+pub returns-in-Err-clause-complete : goal.returns-in-Err-clause-complete
+returns-in-Err-clause-complete g c = λ d has no_read no_write no_out.
+    inr (c.tell_stop.ensures.status ∙ memory_alone (text_at (texts c.args.words.now) 1) d (g.F.Files.disk c.args.files.now) c.in-Err.stop (g.F.Files.read_faults c.args.files.now) (g.F.Files.read_faults c.check_words.new.files)
+    (g.F.Files.write_faults c.args.files.now) (g.F.Files.write_faults c.check_words.new.files) (g.O.Sink.faults c.args.out.now) (g.O.Sink.faults c.check_words.new.out) (g.O.Sink.faults c.tell_stop.new.out) has c.in-Err.ensures.cause
+    c.in-Err.ensures.read c.in-Err.ensures.write c.tell_stop.ensures.later no_read no_write no_out)
+
+pub returns-in-Err-clause-asked : goal.returns-in-Err-clause-asked
+returns-in-Err-clause-asked g c = asked_one c.args.words.now (g.F.Files.asked c.args.files.now) (g.F.Files.asked c.check_words.new.files) c.requires c.in-Err.ensures.asked
+
+pub returns-in-Ok-clause-asked : goal.returns-in-Ok-clause-asked
+returns-in-Ok-clause-asked g c = asked_one c.args.words.now (g.F.Files.asked c.args.files.now) (g.F.Files.asked c.check_words.new.files) c.requires c.in-Ok.ensures.asked
