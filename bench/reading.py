@@ -61,6 +61,30 @@ def write_text(path, size, piece):
         file.write(b")")
 
 
+def write_wiring(path, nets):
+    """A design of so many nets with two wires each, whose last list is a wire without a net, so that all is read and no
+    pair is tested."""
+    with open(path, "wb") as file:
+        file.write(b"(pcb s.dsn (unit um) (structure (layer L1 (type signal)) (rule (width 100) (clearance 200))) (network")
+        for i in range(nets):
+            file.write(b" (net N%d)" % i)
+        file.write(b") (wiring")
+        for i in range(2 * nets - 1):
+            file.write(b" (wire (path L1 200 %d %d %d %d) (net N%d))" % (i % 1000, i // 1000, i % 1000 + 1, i // 1000, i * 7 % nets))
+        file.write(b" (wire (path L1 200 0 0 1 1))))")
+
+
+def wirings(folder):
+    print("nets, wires: MiB, seconds, MB, wc -w seconds, ratio, status")
+    for nets in (25000, 50000, 100000):
+        path = os.path.join(folder, "w.dsn")
+        write_wiring(path, nets)
+        seconds, most, status, output = timed([SERVER, "check", path])
+        words, _, _, _ = timed(["wc", "-w", path], dict(os.environ, LC_ALL="C"))
+        size = os.path.getsize(path) / MIB
+        print(f"{nets} {2 * nets} {size:.1f} {seconds:.2f} {most:.0f} {words:.3f} {seconds / words:.1f} {status} {output.decode().strip()}")
+
+
 def designs(folder):
     print("design of 1,000 nets: MiB, seconds, MB, status")
     for mib in (8, 16, 32, 64):
@@ -101,6 +125,7 @@ def main():
     with tempfile.TemporaryDirectory() as folder:
         designs(folder)
         libraries(folder)
+        wirings(folder)
         trees(folder)
     return 0
 
