@@ -29,3 +29,5 @@ pub mod LengthCuts
 pub mod LengthParts
 pub mod LengthReadings
 pub mod LengthLaws
+pub mod AngleReadings
+pub mod AngleLaws

@@ -12,3 +12,5 @@ pub mod NumberTexts
 pub mod NumberParts
 pub mod Lengths
 pub mod LengthReading
+pub mod Angles
+pub mod AngleReading

@@ -1,6 +1,8 @@
 //! The words, the tree and the lengths of a text.
 #![tactic(auto)]
 
+mod angle;
+mod angle_fault;
 mod builder;
 mod cursor;
 mod fault;
@@ -18,6 +20,8 @@ mod token;
 mod tree;
 mod units;
 
+pub use angle::angle_of;
+pub use angle_fault::AngleFault;
 pub use cursor::{Cursor, Entry, Part, front};
 pub use fault::TextFault;
 pub use layout_io::{Name, Row};
@@ -30,6 +34,8 @@ pub use token::{Token, TokenKind};
 pub use tree::Tree;
 pub use units::Unit;
 
+#[cfg(test)]
+mod angle_tests;
 #[cfg(test)]
 mod length_tests;
 #[cfg(test)]

@@ -8,7 +8,7 @@ use crate::number::Decimal;
 pub(crate) const LIMIT_NM: u128 = 1_000_000_000;
 
 // The number with so many zeros behind it, or `None` where that is above the limit.
-fn shifted_up(number: u128, places: u32) -> Option<u128>
+pub(crate) fn shifted_up(number: u128, places: u32) -> Option<u128>
     ensures within { IfSome result (λ k. (k ≤ 1000000000) × (k ≡ number * 10 ^ places)) }
     ensures above { IfNone result (1000000000 < number * 10 ^ places) }
 {
@@ -26,7 +26,7 @@ fn shifted_up(number: u128, places: u32) -> Option<u128>
 }
 
 // Ten to a power that 128 bits hold.
-fn power_of_ten(places: u32) -> u128
+pub(crate) fn power_of_ten(places: u32) -> u128
     requires { places < 38 }
     ensures value { result ≡ 10 ^ places }
     ensures some { 0 < result }
