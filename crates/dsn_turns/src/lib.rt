@@ -1,0 +1,11 @@
+//! Points turned by eighths of a turn, and shapes led through turns and moves to their place.
+#![tactic(auto)]
+
+mod moves;
+mod turns;
+
+pub use moves::{Step, moved_shapes};
+pub use turns::{Flip, turn};
+
+#[cfg(test)]
+mod tests;
