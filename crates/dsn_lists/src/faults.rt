@@ -74,9 +74,6 @@ pub enum DesignKind {
     /// A side, wiring type or flip style is unknown.
     #[error("style")]
     Style,
-    /// The list isn't read by this release yet.
-    #[error("later")]
-    Later,
 }
 
 /// The first fault of a design, and the byte at which it is told, from 0.

@@ -21,7 +21,7 @@ pub use names::NameSet;
 pub use pcb::{Place, Section, Title, section_of, title_of};
 pub use places::{Coordinates, coordinates_at};
 pub use rules::{Rule, read_rule};
-pub use shapes::{Circle, Path, circle_at, path_at, read_trail};
+pub use shapes::{Circle, Path, circle_at, path_at, point_at, read_trail};
 pub use units::{unit_at, unit_for};
 pub use words::{
     Found, Head, add_names, all_names, is_word, only_word, opening, read_over, word_at,

@@ -118,8 +118,9 @@ pub fn path_at(alloc: Global, unit: Unit, at: u32, list: Cursor<'_>) -> Result<P
     Ok(whole_path(at, width, c)?)
 }
 
+/// The point behind the word of its x, in a list that begins at this byte, and what follows.
 #[tactic(auto, unfolding(crate::specs::Shapes::point_of))]
-fn point_at<'a>(
+pub fn point_at<'a>(
     unit: Unit,
     at: u32,
     word: Found<'a>,

@@ -1,0 +1,15 @@
+pub mod Clauses
+pub mod RoomLaws
+pub mod NameLaws
+pub mod RectLaws
+pub mod OpenedLaws
+pub mod RingLaws
+pub mod DrawnLaws
+pub mod ShapeLaws
+pub mod ShapeListLaws
+pub mod KeepLaws
+pub mod OutlineLaws
+pub mod RingFits
+pub mod DrawnFits
+pub mod KeepFits
+pub mod OutlineFits

@@ -1,0 +1,15 @@
+pub mod Rings
+pub mod Drawn
+pub mod Keepouts
+pub mod Outlines
+pub mod Ahead
+pub mod Rooms
+pub mod Limits
+pub mod NameLists
+pub mod RoomLists
+pub mod RectLists
+pub mod RingLists
+pub mod DrawnLists
+pub mod KeepLists
+pub mod OutlineLists
+pub mod Whys
