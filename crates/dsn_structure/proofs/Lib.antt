@@ -5,8 +5,11 @@ pub mod ControlLaws
 pub mod FlipLaws
 pub mod NewLayerLaws
 pub mod LayerLaws
+pub mod AreaLaws
+pub mod TakenLaws
 pub mod AddingLaws
 pub mod OneListLaws
 pub mod SectionLaws
 pub mod SectionReadings
+pub mod AheadLaws
 pub mod Whole

@@ -7,3 +7,6 @@ mod structure;
 
 pub use flips::{FlipStyle, flip_at};
 pub use structure::{Structure, read_structure};
+
+#[cfg(test)]
+mod tests;

@@ -1,20 +1,26 @@
 //! The section that says of what layers and with what rule a board is made.
-ghost use Rattle.std.specs.Prelude.{◌≡◌, IfOk, IfErr, Ok, Err};
-ghost use Rattle.dsn_structure.specs.Limits.{IsFitStructure};
+ghost use Rattle.std.specs.Prelude.{◌≡◌, ◌≤◌, ◌*◌, length, Ok, Err, IfOk, IfErr};
 ghost use Rattle.sexp_text.specs.Shows.{forest};
 ghost use Rattle.sexp_text.specs.Trees.{tree_forest};
 ghost use Rattle.dsn_lists.specs.Results.{Gives, each};
 ghost use Rattle.dsn_lists.specs.Pcbs.{spotted};
-ghost use Rattle.dsn_structure.specs.Structures.{with_vias, with_rule, area_word, structure_word, structure_item, with_layer, structure_at, structure_of};
+ghost use Rattle.dsn_structure.specs.Structures.{with_vias, with_rule, with_outlines, put_keep, with_keep, keep_word, area_word, structure_word, all_layers, structure_item, no_structure, with_layer, structure_at, structure_of};
+ghost use Rattle.sexp_text.specs.Nodes.{size};
 ghost use Rattle.dsn_lists.specs.declared.faults.DesignFault.{DesignFault};
+ghost use Rattle.dsn_shapes.specs.Rooms.{room_behind};
 ghost use Rattle.dsn_structure.specs.Meaning.{HasStructure, StructureFault, WhyNot};
+ghost use Rattle.dsn_structure.specs.Limits.{IsFitStructure};
 
 use crate::flips::{FlipStyle, flip_at};
 use crate::layers::add_layer;
+use area_geometry::Shapes;
+use board_items::{Item, Items, KeepKind};
+use board_rules::Areas;
 use dsn_lists::{
     DesignKind, Marks, NameSet, Place, ReadWhy, Rule, Section, all_names, fault, is_word, opening,
     read_rule, section_of, title_of, unit_at, unit_for,
 };
+use dsn_shapes::{Room, add_outlines, keep_at, keep_kind, names_ahead, room_behind, whole_room};
 use row_lists::Row;
 use sexp_text::{Cursor, Part, Tree, Unit, front};
 use std::alloc::Global;
@@ -30,6 +36,12 @@ pub struct Structure {
     pub rule: Rule,
     /// The flip style that is stated last.
     pub flip: Option<FlipStyle>,
+    /// The areas in which copper has to lie, in the order of the text.
+    pub outline: Areas,
+    /// The keepouts, in the order of the text.
+    pub keeps: Items,
+    /// How many items and points may come behind the keepouts.
+    pub room: Room,
 }
 
 // What a list of the section is.
@@ -41,8 +53,18 @@ enum StructureWord {
     PlaceControl,
     Unit,
     Resolution,
-    Later,
+    Boundary,
+    Keep(KeepKind),
     Other,
+}
+
+fn keep_word(kind: Option<KeepKind>) -> StructureWord
+    ensures { result ≡ keep_word kind }
+{
+    match kind {
+        None => StructureWord::Other,
+        Some(kind) => StructureWord::Keep(kind),
+    }
 }
 
 #[tactic(auto, unfolding(crate::specs::Structures::area_word))]
@@ -50,18 +72,9 @@ fn area_word(text: &[u8]) -> StructureWord
     ensures { result ≡ area_word text.now }
 {
     if is_word(text, b"boundary") {
-        return StructureWord::Later;
+        return StructureWord::Boundary;
     }
-    if is_word(text, b"keepout") {
-        return StructureWord::Later;
-    }
-    if is_word(text, b"via_keepout") {
-        return StructureWord::Later;
-    }
-    if is_word(text, b"wire_keepout") {
-        return StructureWord::Later;
-    }
-    StructureWord::Other
+    keep_word(keep_kind(text))
 }
 
 #[tactic(auto, unfolding(crate::specs::Structures::structure_word))]
@@ -100,24 +113,86 @@ fn add_vias(alloc: Global, s: Structure, at: u32, args: Cursor<'_>) -> Result<St
 fn add_rule(unit: Unit, s: Structure, args: Cursor<'_>) -> Result<Structure, ReadWhy>
     ensures { Gives (λ x. x) result (with_rule unit s (forest args.entry)) }
 {
-    let rule = read_rule(unit, s.rule, args)?;
-    Ok(Structure {
-        layers: s.layers,
-        vias: s.vias,
+    let Structure {
+        layers,
+        vias,
         rule,
-        flip: s.flip,
+        flip,
+        outline,
+        keeps,
+        room,
+    } = s;
+    let rule = read_rule(unit, rule, args)?;
+    Ok(Structure {
+        layers,
+        vias,
+        rule,
+        flip,
+        outline,
+        keeps,
+        room,
     })
+}
+
+fn add_boundary(
+    alloc: Global,
+    unit: Unit,
+    s: Structure,
+    at: u32,
+    args: Cursor<'_>,
+) -> Result<Structure, ReadWhy>
+    ensures { Gives (λ x. x) result (with_outlines unit s at (forest args.entry)) }
+{
+    let mut s = s;
+    add_outlines(alloc, unit, &mut s.outline, at, args)?;
+    Ok(s)
+}
+
+// Puts a keepout behind the others, where there is room for it. Else the fault `Large` at the byte.
+fn put_keep(
+    at: u32,
+    s: Structure,
+    kind: KeepKind,
+    shapes: Shapes,
+    room: Option<Room>,
+) -> Result<Structure, ReadWhy>
+    ensures { Gives (λ x. x) result (put_keep at s kind shapes room) }
+{
+    let Some(room) = room else {
+        return Err(ReadWhy::from(fault(DesignKind::Large, at)));
+    };
+    let mut s = s;
+    s.keeps.push(Item::Keep { kind, shapes })?;
+    s.room = room;
+    Ok(s)
+}
+
+fn add_keep(
+    alloc: Global,
+    unit: Unit,
+    layers: &NameSet,
+    s: Structure,
+    kind: KeepKind,
+    at: u32,
+    args: Cursor<'_>,
+) -> Result<Structure, ReadWhy>
+    ensures { Gives (λ x. x) result (with_keep unit layers.now s kind at (forest args.entry)) }
+{
+    let shapes = keep_at(alloc, unit, layers, at, args)?;
+    let room = room_behind(s.room, shapes.as_slice());
+    put_keep(at, s, kind, shapes, room)
 }
 
 #[tactic(auto, unfolding(crate::specs::Structures::structure_item))]
 fn read_list(
     alloc: Global,
     unit: Unit,
+    layers: &NameSet,
     s: Structure,
     at: u32,
     inside: Cursor<'_>,
 ) -> Result<Structure, ReadWhy>
-    ensures { Gives (λ x. x) result (structure_item unit s at (forest inside.entry)) }
+    ensures { Gives (λ x. x) result (structure_item unit layers.now s at (forest inside.entry)) }
 {
     let head = opening(inside);
     let mut s = s;
@@ -130,7 +205,8 @@ fn read_list(
             unit_at(at, head.args)?;
         }
         StructureWord::Resolution => return Err(ReadWhy::from(fault(DesignKind::Unit, head.at))),
-        StructureWord::Later => return Err(ReadWhy::from(fault(DesignKind::Later, at))),
+        StructureWord::Boundary => return add_boundary(alloc, unit, s, at, head.args),
+        StructureWord::Keep(kind) => return add_keep(alloc, unit, layers, s, kind, at, head.args),
         StructureWord::Other => (),
     }
     Ok(s)
@@ -140,10 +216,11 @@ fn read_list(
 fn read_lists(
     alloc: Global,
     unit: Unit,
+    layers: &NameSet,
     s: Structure,
     list: Cursor<'_>,
 ) -> Result<Structure, ReadWhy>
-    ensures { Gives (λ x. x) result (each (structure_item unit) s (forest list.entry)) }
+    ensures { Gives (λ x. x) result (each (structure_item unit layers.now) s (forest list.entry)) }
 {
     let mut s = s;
     let mut rest = list;
@@ -156,7 +233,7 @@ fn read_lists(
                 inside,
                 rest: after,
             } => {
-                s = read_list(alloc, unit, s, at, inside)?;
+                s = read_list(alloc, unit, layers, s, at, inside)?;
                 rest = after;
             }
         }
@@ -179,7 +256,16 @@ fn structure_at(alloc: Global, unit: Unit, place: Place<'_>) -> Result<Structure
     ensures { Gives (λ x. x) result (structure_at unit (spotted place.entry)) }
 {
     let unit = unit_for(unit, place.args);
-    let s = Structure {
+    let layers = names_ahead(alloc, b"layer", place.args)?;
+    let s = empty_structure(alloc);
+    let s = read_lists(alloc, unit, &layers, s, place.args)?;
+    with_layer(place.at, s)
+}
+
+fn empty_structure(alloc: Global) -> Structure
+    ensures { result ≡ no_structure }
+{
+    Structure {
         layers: NameSet::new(alloc),
         vias: Row::new(alloc),
         rule: Rule {
@@ -187,13 +273,14 @@ fn structure_at(alloc: Global, unit: Unit, place: Place<'_>) -> Result<Structure
             stated: Row::new(alloc),
         },
         flip: None,
-    };
-    let s = read_lists(alloc, unit, s, place.args)?;
-    with_layer(place.at, s)
+        outline: Row::new(alloc),
+        keeps: Row::new(alloc),
+        room: whole_room(),
+    }
 }
 
 /// The structure of a design, or the first fault of the design itself or of the section.
-#[tactic(auto, using(crate::proofs::Fits::fit_if_given))]
+#[tactic(auto, using(crate::proofs::Fits::fit_if_given, crate::proofs::Fits::few_if_given))]
 pub fn read_structure(alloc: Global, tree: &Tree) -> Result<Structure, ReadWhy>
     ensures read { Gives (λ x. x) result (structure_of (tree_forest tree.now)) }
     // What is read is the structure of the design, and a design that has one is read.
@@ -204,6 +291,8 @@ pub fn read_structure(alloc: Global, tree: &Tree) -> Result<Structure, ReadWhy>
     ensures first { (e : DesignFault) → StructureFault (tree_forest tree.now) e → Gives (λ x. x) result (Err e) }
     // What is read is within the limits.
     ensures fit { IfOk result IsFitStructure }
+    // There are at most 32 outline areas for each word and list of the text.
+    ensures few { IfOk result (λ s. length s.outline ≤ 32 * size (tree_forest tree.now)) }
 {
     section(alloc, tree)
 }
