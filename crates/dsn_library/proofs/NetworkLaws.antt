@@ -1,5 +1,5 @@
 -- What the lists of a network stand for together is what is read.
-use Rattle.std.proofs.Common.{◌≡◌, ℕ, ◌≤◌, List, [], ◌∷◌, ◌++◌, length, Ok, refl, sym, ap, subst, ◌∙◌, append_assoc, arith}
+use Rattle.std.proofs.Common.{◌≡◌, ℕ, ◌+◌, ◌≤◌, List, [], ◌∷◌, ◌++◌, length, Ok, refl, sym, ap, subst, ◌∙◌, append_assoc, arith}
 use Rattle.std.proofs.lemmas.List.{length-append}
 use Rattle.sexp_text.specs.Forest.{Forest, End, Word, Branch}
 use Rattle.sexp_text.specs.declared.units.Unit.{Unit as LengthUnit}
@@ -9,13 +9,17 @@ use Rattle.dsn_lists.specs.Lists.{collect, Every}
 use Rattle.dsn_lists.proofs.Firsts.{made, ok_is, bind_ok}
 use Rattle.dsn_lists.proofs.Fresh.{AreFreshBehind, fresh_none, fresh_join, fresh_front, fresh_back}
 use Rattle.dsn_library.specs.declared.classes.Class.{Class}
+use Rattle.dsn_library.specs.declared.library.Library.{Library}
 use Rattle.dsn_library.specs.declared.network.Network.{Network}
 use Rattle.dsn_library.specs.declared.network.NetworkWord.{NetworkWord}
 use Rattle.dsn_library.specs.declared.network.NetworkWord.TheVariants as words
+use Rattle.dsn_library.specs.declared.placement.Placement.{Placement}
 use Rattle.dsn_library.specs.Networks.{network_word, network_item}
-use Rattle.dsn_library.specs.NetworkMeaning.{IsOfNetwork, IsNetworkList, nets_in, class_of_list, classes_in, AreClasses}
+use Rattle.dsn_library.specs.NamedPins.{with_nets}
+use Rattle.dsn_library.specs.NetworkParts.{IsOfNetwork, IsNetworkList, nets_in, net_references_in, class_of_list, classes_in, AreClasses}
+use Rattle.dsn_library.proofs.PinPuts.{put, AreFree, free_join, free_front, free_back}
 use Rattle.dsn_library.proofs.ClassReadings.{class_is}
-use Rattle.dsn_library.proofs.NetworkListLaws.{adding, adding_more, adding_none, value_of_list, next, IsGood, still_few, one_found, one_again}
+use Rattle.dsn_library.proofs.NetworkListLaws.{nets_join, one_each, adding, adding_more, adding_none, value_of_list, next, IsGood, still_few, one_found, one_again}
 
 -- ---- all lists
 
@@ -24,33 +28,87 @@ abbrev pub values_in : LengthUnit → ℕ → Forest → List Class
 values_in u at inside = value_of_list u (network_word (head_of inside).text) (head_of inside).args
 
 -- the network behind all lists
-abbrev pub all : LengthUnit → Network → Forest → Network
-all u n f = adding n (collect nets_in f) (collect (values_in u) f)
+abbrev pub all : LengthUnit → Placement → Library → Network → Forest → Network
+all u p l n f = adding p l n (collect nets_in f) (collect net_references_in f) (collect (values_in u) f)
 
-more : (u : LengthUnit) (n : Network) (at : ℕ) (inside rest : Forest) → all u (next u n (network_word (head_of inside).text) (head_of inside).args) rest ≡ all u n (Branch at inside rest)
-more u n at inside rest = adding_more n (nets_in at inside) (collect nets_in rest) (values_in u at inside) (collect (values_in u) rest)
+more : (u : LengthUnit) (p : Placement) (l : Library) (n : Network) (at : ℕ) (inside rest : Forest) → all u p l (next u p l n (network_word (head_of inside).text) (head_of inside).args) rest ≡ all u p l n (Branch at inside rest)
+more u p l n at inside rest =
+    adding_more p l n (nets_in at inside) (collect nets_in rest) (net_references_in at inside) (collect net_references_in rest) (values_in u at inside) (collect (values_in u) rest)
+    (one_each (head_of inside).args (network_word (head_of inside).text))
 
--- lists as they have to be, and nets whose names are new
-pub record AreGood (u : LengthUnit) (n : Network) (f : Forest) : Type 0 where
+-- as many nets as lists of references
+pub all_each : (f : Forest) → length (collect nets_in f) ≡ length (collect net_references_in f)
+all_each End = refl
+all_each (Word at text rest) = all_each rest
+all_each (Branch at inside rest) =
+    let a = length-append (nets_in at inside) (collect nets_in rest) in
+    let b = length-append (net_references_in at inside) (collect net_references_in rest) in
+    let here = one_each (head_of inside).args (network_word (head_of inside).text) in
+    let later = all_each rest in
+    omega (arith, a, b, here, later)
+
+-- the references of these nets name pins of no other net
+abbrev pub AreFreeBehind : Placement → Library → Network → List (List (List ℕ)) → Type 0
+AreFreeBehind p l n refs = AreFree p l n.pins (with_nets (length n.nets) refs)
+
+-- lists as they have to be, and nets whose names are new, and whose references name pins of no other net
+pub record AreGood (u : LengthUnit) (p : Placement) (l : Library) (n : Network) (f : Forest) : Type 0 where
   pub formed : Every (IsNetworkList u) f
   pub fresh : AreFreshBehind n.nets (collect nets_in f)
   pub few : length (n.nets ++ collect nets_in f) ≤ 100000
+  pub free : AreFreeBehind p l n (collect net_references_in f)
 
-pub all_found : (u : LengthUnit) (f : Forest) (n m : Network) → length n.nets ≤ 100000 → each (network_item u) n f ≡ Ok m → AreGood u n f × (m ≡ all u n f)
+-- ---- the references behind those of one list
+
+-- the nets of pins behind one list
+abbrev pins_of : Placement → Library → Network → ℕ → Forest → List ((ℕ × ℕ) × ℕ)
+pins_of p l n at inside = put p l n.pins (with_nets (length n.nets) (net_references_in at inside))
+
+count_is : (n : Network) (at : ℕ) (inside : Forest) → length (n.nets ++ nets_in at inside) ≡ length n.nets + length (net_references_in at inside)
+count_is n at inside = length-append n.nets (nets_in at inside) ∙ ap (λ (k : ℕ). length n.nets + k) (one_each (head_of inside).args (network_word (head_of inside).text))
+
+free_both : (p : Placement) (l : Library) (n : Network) (at : ℕ) (inside rest : Forest) → AreFreeBehind p l n (net_references_in at inside)
+    → AreFree p l (pins_of p l n at inside) (with_nets (length (n.nets ++ nets_in at inside)) (collect net_references_in rest)) → AreFreeBehind p l n (collect net_references_in (Branch at inside rest))
+free_both p l n at inside rest here later =
+    let refs = net_references_in at inside in
+    let others = collect net_references_in rest in
+    let next = subst (λ (k : ℕ). AreFree p l (pins_of p l n at inside) (with_nets k others)) (count_is n at inside) later in
+    subst (λ (rs : List (List ℕ × ℕ)). AreFree p l n.pins rs) (nets_join refs others (length n.nets)) (free_join p l (with_nets (length n.nets) refs) (with_nets (length n.nets + length refs) others) n.pins here next)
+
+free_here : (p : Placement) (l : Library) (n : Network) (at : ℕ) (inside rest : Forest) → AreFreeBehind p l n (collect net_references_in (Branch at inside rest)) → AreFreeBehind p l n (net_references_in at inside)
+free_here p l n at inside rest h =
+    let refs = net_references_in at inside in
+    let others = collect net_references_in rest in
+    let both = subst (λ (rs : List (List ℕ × ℕ)). AreFree p l n.pins rs) (sym (nets_join refs others (length n.nets))) h in
+    free_front p l (with_nets (length n.nets) refs) (with_nets (length n.nets + length refs) others) n.pins both
+
+free_later : (p : Placement) (l : Library) (n : Network) (at : ℕ) (inside rest : Forest) → AreFreeBehind p l n (collect net_references_in (Branch at inside rest))
+    → AreFree p l (pins_of p l n at inside) (with_nets (length (n.nets ++ nets_in at inside)) (collect net_references_in rest))
+free_later p l n at inside rest h =
+    let refs = net_references_in at inside in
+    let others = collect net_references_in rest in
+    let both = subst (λ (rs : List (List ℕ × ℕ)). AreFree p l n.pins rs) (sym (nets_join refs others (length n.nets))) h in
+    let back = free_back p l (with_nets (length n.nets) refs) (with_nets (length n.nets + length refs) others) n.pins both in
+    subst (λ (k : ℕ). AreFree p l (pins_of p l n at inside) (with_nets k others)) (sym (count_is n at inside)) back
+
+-- ---- found, and back
+
+pub all_found : (u : LengthUnit) (p : Placement) (l : Library) (f : Forest) (n m : Network) → length n.nets ≤ 100000 → each (network_item u p l) n f ≡ Ok m → AreGood u p l n f × (m ≡ all u p l n f)
 unfolding each network_item
-all_found u End n m few e = (record { formed = tt; fresh = fresh_none n.nets; few = still_few n.nets few }, sym (ok_is n m e) ∙ adding_none n)
-all_found u (Word at text rest) n m few e = absurd cc
-all_found u (Branch at inside rest) n m few e =
-    let y = bind_ok (network_item u n at inside) (λ y. each (network_item u) y rest) m e in
-    let one = one_found u n at (head_of inside) (network_word (head_of inside).text) y.0 few y.1 in
-    let nets : y.0.nets ≡ n.nets ++ nets_in at inside = ap (λ (x : Network). x.nets) one.1 in
-    let others = all_found u rest y.0 m (subst (λ (xs : List (List ℕ)). length xs ≤ 100000) (sym nets) one.0.few) y.2 in (
+all_found u p l End n m few e = (record { formed = tt; fresh = fresh_none n.nets; few = still_few n.nets few; free = tt }, sym (ok_is n m e) ∙ adding_none p l n)
+all_found u p l (Word at text rest) n m few e = absurd cc
+all_found u p l (Branch at inside rest) n m few e =
+    let y = bind_ok (network_item u p l n at inside) (λ y. each (network_item u p l) y rest) m e in
+    let one = one_found u p l n at (head_of inside) (network_word (head_of inside).text) y.0 few y.1 in
+    let now = next u p l n (network_word (head_of inside).text) (head_of inside).args in
+    let others = all_found u p l rest now m one.0.few (ap (λ (x : Network). each (network_item u p l) x rest) (sym one.1) ∙ y.2) in (
       record {
         formed = (one.0.formed, others.0.formed);
-        fresh = fresh_join (nets_in at inside) (collect nets_in rest) n.nets one.0.fresh (subst (λ (xs : List (List ℕ)). AreFreshBehind xs (collect nets_in rest)) nets others.0.fresh);
-        few = subst (λ (xs : List (List ℕ)). length xs ≤ 100000) (ap (λ (xs : List (List ℕ)). xs ++ collect nets_in rest) nets ∙ append_assoc n.nets (nets_in at inside) (collect nets_in rest)) others.0.few;
+        fresh = fresh_join (nets_in at inside) (collect nets_in rest) n.nets one.0.fresh others.0.fresh;
+        few = subst (λ (xs : List (List ℕ)). length xs ≤ 100000) (append_assoc n.nets (nets_in at inside) (collect nets_in rest)) others.0.few;
+        free = free_both p l n at inside rest one.0.free others.0.free;
       },
-      others.1 ∙ ap (λ (x : Network). all u x rest) one.1 ∙ more u n at inside rest,
+      others.1 ∙ more u p l n at inside rest,
     )
 
 front_few : (xs ys zs : List (List ℕ)) → length (xs ++ (ys ++ zs)) ≤ 100000 → length (xs ++ ys) ≤ 100000
@@ -59,23 +117,25 @@ front_few xs ys zs h =
     let same = ap length (append_assoc xs ys zs) in
     omega arith
 
-pub all_again : (u : LengthUnit) (f : Forest) (n : Network) → AreGood u n f → each (network_item u) n f ≡ Ok (all u n f)
+pub all_again : (u : LengthUnit) (p : Placement) (l : Library) (f : Forest) (n : Network) → AreGood u p l n f → each (network_item u p l) n f ≡ Ok (all u p l n f)
 unfolding each network_item
-all_again u End n g = ap made (adding_none n)
-all_again u (Word at text rest) n g = absurd g.formed
-all_again u (Branch at inside rest) n g =
-    let here : IsGood u n (network_word (head_of inside).text) (head_of inside).args = record {
+all_again u p l End n g = ap made (adding_none p l n)
+all_again u p l (Word at text rest) n g = absurd g.formed
+all_again u p l (Branch at inside rest) n g =
+    let here : IsGood u p l n (network_word (head_of inside).text) (head_of inside).args = record {
       formed = g.formed.0;
       fresh = fresh_front (nets_in at inside) (collect nets_in rest) n.nets g.fresh;
       few = front_few n.nets (nets_in at inside) (collect nets_in rest) g.few;
+      free = free_here p l n at inside rest g.free;
     } in
-    let first = one_again u n at (head_of inside) (network_word (head_of inside).text) here in
-    let others : AreGood u (next u n (network_word (head_of inside).text) (head_of inside).args) rest = record {
+    let first = one_again u p l n at (head_of inside) (network_word (head_of inside).text) here in
+    let others : AreGood u p l (next u p l n (network_word (head_of inside).text) (head_of inside).args) rest = record {
       formed = g.formed.1;
       fresh = fresh_back (nets_in at inside) (collect nets_in rest) n.nets g.fresh;
       few = subst (λ (xs : List (List ℕ)). length xs ≤ 100000) (sym (append_assoc n.nets (nets_in at inside) (collect nets_in rest))) g.few;
+      free = free_later p l n at inside rest g.free;
     } in
-    rw first (all_again u rest (next u n (network_word (head_of inside).text) (head_of inside).args) others ∙ ap made (more u n at inside rest))
+    rw first (all_again u p l rest (next u p l n (network_word (head_of inside).text) (head_of inside).args) others ∙ ap made (more u p l n at inside rest))
 
 -- ---- the classes
 

@@ -14,9 +14,10 @@ use Rattle.dsn_lists.proofs.JoinLaws.{Adds}
 use Rattle.dsn_library.specs.declared.stacks.Drawn.{Drawn}
 use Rattle.dsn_library.specs.declared.stacks.StackWord.{StackWord}
 use Rattle.dsn_library.specs.declared.stacks.StackWord.TheVariants as stacks
-use Rattle.dsn_library.specs.Libraries.{shapes_of, not_first, stack_word, stack_list, stack_item}
+use Rattle.dsn_shapes.specs.Drawn.{shapes_of}
+use Rattle.dsn_library.specs.Libraries.{not_first, stack_word, stack_list, stack_item}
 use Rattle.dsn_library.specs.StackLists.{StacksBy, IsStackList, StacksByFault, StackListFault}
-use Rattle.dsn_library.proofs.ShapeListLaws.{shapes_again, shapes_fault, shapes_fault_again, shapes_found}
+use Rattle.dsn_shapes.proofs.ShapeListLaws.{shapes_again, shapes_fault, shapes_fault_again, shapes_found}
 use Rattle.dsn_library.proofs.StartLaws.{start_found, start_again, start_fault, start_fault_again}
 
 -- ---- what lists add to what is drawn

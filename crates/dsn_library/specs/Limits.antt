@@ -1,33 +1,49 @@
 -- A library and a network within the limits.
 use Rattle.std.specs.Prelude.{◌≡◌, ℕ, ◌≤◌, ◌<◌, List, length}
 use Rattle.std.specs.List.{AllByRecursion}
-use Rattle.area_geometry.specs.declared.shapes.Core.{Core}
-use Rattle.area_geometry.specs.declared.shapes.Core.TheVariants.{Chain, Area}
-use Rattle.area_geometry.specs.declared.shapes.Shape.{Shape}
+use Rattle.seg_geometry.specs.Points.{IsInRange}
 use Rattle.board_items.specs.declared.items.Padstack.{Padstack}
-use Rattle.board_rules.specs.Designs.{IsFitShape}
 use Rattle.dsn_lists.specs.Limits.{IsFitRule}
+use Rattle.dsn_shapes.specs.Limits.{AreFitDrawn}
 use Rattle.dsn_library.specs.declared.classes.Class.{Class}
-use Rattle.dsn_library.specs.declared.network.Network.{Network}
+use Rattle.dsn_library.specs.declared.images.Image.{Image}
+use Rattle.dsn_library.specs.declared.images.ImagePart.{ImagePart}
+use Rattle.dsn_library.specs.declared.images.ImagePart.TheVariants as parts
 use Rattle.dsn_library.specs.declared.library.Library.{Library}
+use Rattle.dsn_library.specs.declared.network.Network.{Network}
 
--- a chain of one point or more
-abbrev pub IsChain : Core → Type 0
-IsChain (Chain points) = 0 < length points
-IsChain (Area points) = ⊥
+-- ---- the library
 
--- at most 65,535 padstacks, each with a name; their shapes are chains within the limits
+-- the shapes of a padstack are within the limits, on so many layers
+abbrev pub IsFitStack : ℕ → Padstack → Type 0
+IsFitStack layers p = AreFitDrawn layers p.shapes
+
+-- a part of an image with so many ids, among so many padstacks: a pin has one of these and one of those, turns by less than
+-- a whole turn and stands in range; the shapes of a keepout are within the limits
+abbrev pub IsFitImagePart : ℕ → ℕ → ℕ → ImagePart → Type 0
+IsFitImagePart layers stacks ids (parts.Pin stack id eighths at) = (stack < stacks) × (id < ids) × (eighths < 8) × IsInRange at
+IsFitImagePart layers stacks ids (parts.Keep kind shapes) = AreFitDrawn layers shapes
+
+-- the parts of an image are within the limits, among so many padstacks
+abbrev pub IsFitImage : ℕ → ℕ → Image → Type 0
+IsFitImage layers stacks m = AllByRecursion (IsFitImagePart layers stacks (length m.ids)) m.parts
+
+-- at most 65,535 padstacks and any number of images, each with a name; all are within the limits, on so many layers
 pub record IsFitLibrary (layers : ℕ) (l : Library) : Type 0 where
   pub few : length l.stacks ≤ 65535
   pub names : length l.names ≡ length l.stacks
-  pub shapes : AllByRecursion (λ (p : Padstack). AllByRecursion (IsFitShape layers) p.shapes) l.stacks
-  pub chains : AllByRecursion (λ (p : Padstack). AllByRecursion (λ (s : Shape). IsChain s.core) p.shapes) l.stacks
+  pub shapes : AllByRecursion (IsFitStack layers) l.stacks
+  pub image_names : length l.image_names ≡ length l.images
+  pub images : AllByRecursion (IsFitImage layers (length l.stacks)) l.images
 
 -- no padstack has more shapes
 abbrev pub HaveAtMost : ℕ → List Padstack → Type 0
 HaveAtMost most stacks = AllByRecursion (λ (p : Padstack). length p.shapes ≤ most) stacks
 
--- at most 100,000 nets; what the rules of the classes state is within the limits
+-- ---- the network
+
+-- at most 100,000 nets; those of pins are among them; what the rules of the classes state is within the limits
 pub record IsFitNetwork (n : Network) : Type 0 where
   pub few : length n.nets ≤ 100000
+  pub pins : AllByRecursion (λ (p : (ℕ × ℕ) × ℕ). p.1 < length n.nets) n.pins
   pub rules : AllByRecursion (λ (c : Class). IsFitRule c.rule) n.classes

@@ -1,6 +1,6 @@
 -- What the lists of the network section state.
 -- Models: the network, net, pins, class, circuit and use_via descriptors of the SPECCTRA reference.
--- Left out: class_class and all other lists. Later: pins, which need a placement.
+-- Left out: class_class and all other lists.
 use Rattle.std.specs.Prelude.{ℕ, suc, nat_lt, ◌==◌, List, [], ◌∷◌, ◌++◌, set, get_or, codes, length, Option, Some, None, Ok, if◌then◌else◌}
 use Rattle.sexp_text.specs.Forest.{Forest, End, Word, Branch}
 use Rattle.sexp_text.specs.declared.units.Unit.{Unit as LengthUnit}
@@ -9,16 +9,20 @@ use Rattle.dsn_lists.specs.declared.marks.Mark.{Mark}
 use Rattle.dsn_lists.specs.declared.pcb.Section.TheVariants as sections
 use Rattle.dsn_lists.specs.Results.{Read, ◌>>=◌, wrong, each}
 use Rattle.dsn_lists.specs.Names.{is_among, place_of}
-use Rattle.dsn_lists.specs.Words.{Heading, same, head_of, word_of, spare, names, name_list}
+use Rattle.dsn_lists.specs.Words.{Heading, same, mark, head_of, word_of, spare, names, name_list}
 use Rattle.dsn_lists.specs.Units.{unit_list, governing}
 use Rattle.dsn_lists.specs.Rules.{no_rule, rule_of}
 use Rattle.dsn_lists.specs.Pcbs.{Spot, design_of, section_in}
+use Rattle.dsn_shapes.specs.declared.rooms.Room.{Room}
 use Rattle.dsn_library.specs.declared.classes.Class.{Class}
 use Rattle.dsn_library.specs.declared.classes.ClassWord.{ClassWord}
 use Rattle.dsn_library.specs.declared.classes.ClassWord.TheVariants as class
+use Rattle.dsn_library.specs.declared.library.Library.{Library}
 use Rattle.dsn_library.specs.declared.network.Network.{Network}
 use Rattle.dsn_library.specs.declared.network.NetworkWord.{NetworkWord}
 use Rattle.dsn_library.specs.declared.network.NetworkWord.TheVariants as words
+use Rattle.dsn_library.specs.declared.placement.Placement.{Placement}
+use Rattle.dsn_library.specs.References.{net_at, pin_of}
 
 -- ---- nets
 
@@ -26,26 +30,36 @@ use Rattle.dsn_library.specs.declared.network.NetworkWord.TheVariants as words
 unfoldable pub new_net : List (List ℕ) → Mark → Read (Unit {0})
 new_net nets w = if is_among w.name nets then wrong kind.Twice w.at else if nat_lt 99999 (length nets) then wrong kind.Large w.at else Ok tt
 
--- `(pins <reference> ..)`: there is no pin to refer to
-unfoldable pub pins_of : Forest → Read (Unit {0})
-pins_of End = Ok tt
-pins_of (Word at text rest) = wrong kind.Name at
-pins_of (Branch at inside rest) = spare (Branch at inside rest)
+-- the nets of pins, and this net of one more pin, unless the pin has it; another net that the pin has is a fault
+abbrev pub net_added : ℕ → List ((ℕ × ℕ) × ℕ) → ℕ × ℕ → ℕ → Option ℕ → Read (List ((ℕ × ℕ) × ℕ))
+net_added net pins p at None = Ok (pins ++ (p, net) ∷ [])
+net_added net pins p at (Some k) = if k == net then Ok pins else wrong kind.Twice at
 
-unfoldable pub net_item : Unit {0} → ℕ → Forest → Read (Unit {0})
-net_item x at inside = if same (head_of inside).text (codes "pins") then pins_of (head_of inside).args else Ok tt
+-- the nets of pins behind a reference at this byte, by the pin that it names
+abbrev pub pin_added : ℕ → List ((ℕ × ℕ) × ℕ) → ℕ → Option (ℕ × ℕ) → Read (List ((ℕ × ℕ) × ℕ))
+pin_added net pins at None = wrong kind.Name at
+pin_added net pins at (Some p) = net_added net pins p at (net_at pins p)
 
--- the name of a net behind nets of these names
-unfoldable pub net_of : List (List ℕ) → ℕ → Forest → Read (List ℕ)
-net_of nets at f = do
+-- the nets of pins behind a reference of this net
+unfoldable pub reference_of : Placement → Library → ℕ → List ((ℕ × ℕ) × ℕ) → Mark → Read (List ((ℕ × ℕ) × ℕ))
+reference_of p l net pins w = pin_added net pins w.at (pin_of p l w.name)
+
+-- the nets of pins behind `(pins <reference> ..)` of this net
+unfoldable pub pins_of : Placement → Library → ℕ → List ((ℕ × ℕ) × ℕ) → Forest → Read (List ((ℕ × ℕ) × ℕ))
+pins_of p l net pins End = Ok pins
+pins_of p l net pins (Word at text rest) = reference_of p l net pins (mark at text) >>= λ more. pins_of p l net more rest
+pins_of p l net pins (Branch at inside rest) = spare (Branch at inside rest) >>= λ _. Ok pins
+
+unfoldable pub net_item : Placement → Library → ℕ → List ((ℕ × ℕ) × ℕ) → ℕ → Forest → Read (List ((ℕ × ℕ) × ℕ))
+net_item p l net pins at inside = if same (head_of inside).text (codes "pins") then pins_of p l net pins (head_of inside).args else Ok pins
+
+-- the network with one more net, whose number is that of the nets before it
+unfoldable pub with_net : Placement → Library → Network → ℕ → Forest → Read Network
+with_net p l n at f = do
   w ← word_of at f
-  _ ← new_net nets w.0
-  _ ← each net_item tt w.1
-  Ok w.0.name
-
--- the names of the nets and of one more
-abbrev pub nets_with : List (List ℕ) → ℕ → Forest → Read (List (List ℕ))
-nets_with nets at f = net_of nets at f >>= λ name. Ok (nets ++ name ∷ [])
+  _ ← new_net n.nets w.0
+  pins ← each (net_item p l (length n.nets)) n.pins w.1
+  Ok (record n { nets = n.nets ++ w.0.name ∷ []; pins = pins })
 
 -- ---- classes
 
@@ -122,23 +136,24 @@ network_word text =
 abbrev pub with_class : LengthUnit → Network → ℕ → Forest → Read Network
 with_class u n at f = class_of u at f >>= λ c. Ok (record n { classes = n.classes ++ c ∷ [] })
 
-abbrev pub network_list : LengthUnit → Network → ℕ → Heading → NetworkWord → Read Network
-network_list u n at h words.Net = nets_with n.nets at h.args >>= λ names. Ok (record n { nets = names })
-network_list u n at h words.Class = with_class u n at h.args
-network_list u n at h words.Unit = unit_list at h.args >>= λ _. Ok n
-network_list u n at h words.Resolution = wrong kind.Unit h.at
-network_list u n at h words.Other = Ok n
+abbrev pub network_list : LengthUnit → Placement → Library → Network → ℕ → Heading → NetworkWord → Read Network
+network_list u p l n at h words.Net = with_net p l n at h.args
+network_list u p l n at h words.Class = with_class u n at h.args
+network_list u p l n at h words.Unit = unit_list at h.args >>= λ _. Ok n
+network_list u p l n at h words.Resolution = wrong kind.Unit h.at
+network_list u p l n at h words.Other = Ok n
 
-unfoldable pub network_item : LengthUnit → Network → ℕ → Forest → Read Network
-network_item u n at inside = network_list u n at (head_of inside) (network_word (head_of inside).text)
+unfoldable pub network_item : LengthUnit → Placement → Library → Network → ℕ → Forest → Read Network
+network_item u p l n at inside = network_list u p l n at (head_of inside) (network_word (head_of inside).text)
 
-abbrev pub no_network : Network
-no_network = record { nets = []; classes = [] }
+-- no net, and this room for items and points
+abbrev pub no_network : Room → Network
+no_network room = record { nets = []; pins = []; classes = []; room = room }
 
 -- the section at its place, where this unit governs the design
-unfoldable pub network_at : LengthUnit → Spot → Read Network
-network_at u p = each (network_item (governing u p.args)) no_network p.args
+unfoldable pub network_at : LengthUnit → Placement → Library → Spot → Read Network
+network_at u p l s = each (network_item (governing u s.args) p l) (no_network p.room) s.args
 
--- the network of a design
-unfoldable pub network_of : Forest → Read Network
-network_of f = design_of f >>= λ t. network_at t.unit (section_in sections.Network f)
+-- the network of a design with this placement and library
+unfoldable pub network_of : Forest → Placement → Library → Read Network
+network_of f p l = design_of f >>= λ t. network_at t.unit p l (section_in sections.Network f)

@@ -1,22 +1,24 @@
-//! The section that says what padstacks there are.
+//! The section that says what padstacks and images there are.
 ghost use Rattle.std.specs.Prelude.{◌≡◌, ◌≤◌, false, length, IfOk, IfErr, OnOk, Ok, Err};
 ghost use Rattle.dsn_structure.specs.Limits.{IsFitStructure};
-ghost use Rattle.dsn_library.specs.Limits.{IsFitLibrary};
-ghost use Rattle.dsn_lists.specs.declared.faults.DesignFault.{DesignFault};
-ghost use Rattle.dsn_library.specs.LibraryMeaning.{HasLibrary, LibraryFault, WhyNot};
 ghost use Rattle.sexp_text.specs.Shows.{forest};
 ghost use Rattle.sexp_text.specs.Trees.{tree_forest};
 ghost use Rattle.dsn_lists.specs.Results.{Gives, each};
 ghost use Rattle.dsn_lists.specs.Names.{is_among};
 ghost use Rattle.dsn_lists.specs.Pcbs.{spotted};
-ghost use Rattle.dsn_library.specs.Libraries.{library_word, with_stack, library_item, no_library, library_at, library_of};
+ghost use Rattle.dsn_library.specs.LibraryMeaning.{HasLibrary, LibraryFault, WhyNot};
+ghost use Rattle.dsn_library.specs.Limits.{IsFitLibrary};
+ghost use Rattle.dsn_library.specs.Libraries.{library_word, with_stack, with_image, all_stacks, library_item, no_library, library_at, library_of};
 
+use crate::image_lists::image_at;
+use crate::images::{Image, Images};
 use crate::stacks::stack_at;
 use board_items::{Padstack, Stacks};
 use dsn_lists::{
-    DesignKind, NameSet, Place, ReadWhy, Section, fault, is_word, opening, section_of, title_of,
-    unit_at, unit_for,
+    DesignFault, DesignKind, NameSet, Place, ReadWhy, Section, fault, is_word, opening, section_of,
+    title_of, unit_at, unit_for,
 };
+use dsn_shapes::names_ahead;
 use dsn_structure::Structure;
 use row_lists::Row;
 use sexp_text::{Cursor, Part, Tree, Unit, front};
@@ -29,13 +31,17 @@ pub struct Library {
     pub names: NameSet,
     /// The padstacks, at most 65,535, in the same order.
     pub stacks: Stacks,
+    /// The names of the images, numbered from 0 in the order of the text.
+    pub image_names: NameSet,
+    /// The images in the same order.
+    pub images: Images,
 }
 
 // What a list of the section is.
 #[derive(Clone, Copy, Debug)]
 enum LibraryWord {
     Stack,
-    Later,
+    Image,
     Unit,
     Resolution,
     Other,
@@ -49,7 +55,7 @@ fn library_word(text: &[u8]) -> LibraryWord
         return LibraryWord::Stack;
     }
     if is_word(text, b"image") {
-        return LibraryWord::Later;
+        return LibraryWord::Image;
     }
     if is_word(text, b"unit") {
         return LibraryWord::Unit;
@@ -68,17 +74,25 @@ fn put_stack(library: &mut Library, stack: Padstack) -> Result<(), AllocError>
     library.stacks.push(stack)
 }
 
+fn put_image(library: &mut Library, name: &[u8], image: Image) -> Result<(), AllocError>
+    requires { is_among name.now library.old.image_names ≡ false }
+    ensures { OnOk result (library.new ≡ with_image library.old name.now image) }
+{
+    library.image_names.add(name)?;
+    library.images.push(image)
+}
+
 #[tactic(auto, unfolding(crate::specs::Libraries::library_item))]
 fn read_list(
     alloc: Global,
     unit: Unit,
     layers: &NameSet,
+    stacks: &NameSet,
     library: &mut Library,
     at: u32,
     inside: Cursor<'_>,
 ) -> Result<(), ReadWhy>
-    requires { length layers.now ≤ 32 }
-    ensures { Gives (λ _. library.new) result (library_item unit layers.now library.old at (forest inside.entry)) }
+    ensures { Gives (λ _. library.new) result (library_item unit layers.now stacks.now library.old at (forest inside.entry)) }
 {
     let head = opening(inside);
     match library_word(head.text) {
@@ -86,7 +100,11 @@ fn read_list(
             let stack = stack_at(alloc, unit, layers, &library.names, at, head.args)?;
             Ok(put_stack(library, stack)?)
         }
-        LibraryWord::Later => Err(ReadWhy::from(fault(DesignKind::Later, at))),
+        LibraryWord::Image => {
+            let names = &library.image_names;
+            let (name, image) = image_at(alloc, unit, layers, stacks, names, at, head.args)?;
+            Ok(put_image(library, name, image)?)
+        }
         LibraryWord::Unit => {
             unit_at(at, head.args)?;
             Ok(())
@@ -101,11 +119,11 @@ fn read_lists(
     alloc: Global,
     unit: Unit,
     layers: &NameSet,
+    stacks: &NameSet,
     library: &mut Library,
     list: Cursor<'_>,
 ) -> Result<(), ReadWhy>
-    requires { length layers.now ≤ 32 }
-    ensures { Gives (λ _. library.new) result (each (library_item unit layers.now) library.old (forest list.entry)) }
+    ensures { Gives (λ _. library.new) result (each (library_item unit layers.now stacks.now) library.old (forest list.entry)) }
 {
     let mut rest = list;
     'lists: loop {
@@ -117,10 +135,21 @@ fn read_lists(
                 inside,
                 rest: after,
             } => {
-                read_list(alloc, unit, layers, library, at, inside)?;
+                read_list(alloc, unit, layers, stacks, library, at, inside)?;
                 rest = after;
             }
         }
+    }
+}
+
+fn empty_library(alloc: Global) -> Library
+    ensures { result ≡ no_library }
+{
+    Library {
+        names: NameSet::new(alloc),
+        stacks: Row::new(alloc),
+        image_names: NameSet::new(alloc),
+        images: Row::new(alloc),
     }
 }
 
@@ -131,20 +160,17 @@ fn library_at(
     layers: &NameSet,
     place: Place<'_>,
 ) -> Result<Library, ReadWhy>
-    requires { length layers.now ≤ 32 }
     ensures { Gives (λ x. x) result (library_at unit layers.now (spotted place.entry)) }
 {
     let unit = unit_for(unit, place.args);
-    let mut library = Library {
-        names: NameSet::new(alloc),
-        stacks: Row::new(alloc),
-    };
-    read_lists(alloc, unit, layers, &mut library, place.args)?;
+    let stacks = names_ahead(alloc, b"padstack", place.args)?;
+    let mut library = empty_library(alloc);
+    read_lists(alloc, unit, layers, &stacks, &mut library, place.args)?;
     Ok(library)
 }
 
 /// The library of a design, or the first fault of the design itself or of the section. The structure is the design's.
-#[tactic(auto, using(crate::proofs::Fits::library_if_given))]
+#[tactic(auto, using(crate::proofs::LibraryFits::library_if_given))]
 pub fn read_library(alloc: Global, tree: &Tree, structure: &Structure) -> Result<Library, ReadWhy>
     requires { IsFitStructure structure.now }
     ensures read { Gives (λ x. x) result (library_of (tree_forest tree.now) structure.now.layers) }

@@ -9,15 +9,18 @@ ghost use Rattle.dsn_lists.specs.Words.{marked};
 ghost use Rattle.dsn_lists.specs.Pcbs.{spotted};
 ghost use Rattle.dsn_library.specs.Limits.{IsFitNetwork};
 ghost use Rattle.dsn_library.specs.NetworkMeaning.{HasNetwork, NetworkFault, WhyNot};
-ghost use Rattle.dsn_library.specs.Networks.{new_net, pins_of, net_item, net_of, nets_with, with_class, network_word, network_item, no_network, network_at, network_of};
+ghost use Rattle.dsn_library.specs.Networks.{new_net, reference_of, pins_of, net_item, with_net, with_class, network_word, network_item, no_network, network_at, network_of};
 
 use crate::classes::{Class, class_at};
 use crate::library::Library;
+use crate::pins::PinNets;
 use crate::placement::Placement;
+use crate::references::PinNames;
 use dsn_lists::{
     DesignFault, DesignKind, Found, NameSet, Place, ReadWhy, Section, fault, is_word, opening,
     read_over, section_of, title_of, unit_at, unit_for, word_at,
 };
+use dsn_shapes::Room;
 use row_lists::Row;
 use sexp_text::{Cursor, Part, Tree, Unit, front};
 use std::alloc::Global;
@@ -33,7 +36,11 @@ pub type Classes = Row<Class>;
 pub struct Network {
     /// The names of the nets, at most 100,000, numbered from 0 in the order of the text.
     pub nets: NameSet,
+    /// The nets of the pins that are named.
+    pub pins: PinNets,
     pub classes: Classes,
+    /// How many items and points may come behind those of the placement.
+    pub room: Room,
 }
 
 // What a list of the section is.
@@ -47,9 +54,10 @@ enum NetworkWord {
 }
 
 #[tactic(auto, unfolding(crate::specs::Networks::new_net))]
-fn check_name(nets: &NameSet, word: Found<'_>) -> Result<(), DesignFault>
-    ensures told { Tells (λ x. x) result (new_net nets.now (marked word.entry)) }
+fn check_name(nets: &NameSet, word: Found<'_>) -> Result<u32, DesignFault>
+    ensures told { Tells (λ _. tt) result (new_net nets.now (marked word.entry)) }
     ensures fresh { OnOk result (is_among word.entry.text.now nets.now ≡ false) }
+    ensures number { IfOk result (λ n. n ≡ length nets.now) }
 {
     if nets.contains(word.text) {
         return Err(fault(DesignKind::Twice, word.at));
@@ -57,70 +65,114 @@ fn check_name(nets: &NameSet, word: Found<'_>) -> Result<(), DesignFault>
     if nets.len() >= NETS {
         return Err(fault(DesignKind::Large, word.at));
     }
-    Ok(())
+    Ok(nets.len() as u32)
 }
 
-// No component has a pin.
-#[tactic(auto, unfolding(crate::specs::Networks::pins_of))]
-fn read_pins(args: Cursor<'_>) -> Result<(), DesignFault>
-    ensures { Tells (λ x. x) result (pins_of (forest args.entry)) }
+// Gives the net of this number to the pin that a reference names.
+#[tactic(auto, unfolding(crate::specs::Networks::reference_of))]
+fn read_reference(
+    names: &PinNames<'_>,
+    net: u32,
+    pins: &mut PinNets,
+    word: Found<'_>,
+) -> Result<(), ReadWhy>
+    ensures { Gives (λ _. pins.new) result (reference_of names.now.placement.now names.now.library.now net pins.old (marked word.entry)) }
 {
-    match front(args) {
-        Part::End => Ok(()),
-        Part::Word { at, .. } => Err(fault(DesignKind::Name, at)),
-        Part::List { .. } => read_over(args),
+    let Some((component, pin)) = names.pin(word.text) else {
+        return Err(ReadWhy::from(fault(DesignKind::Name, word.at)));
+    };
+    match pins.get(component, pin) {
+        None => Ok(pins.add(component, pin, net)?),
+        Some(other) if other == net => Ok(()),
+        Some(_) => Err(ReadWhy::from(fault(DesignKind::Twice, word.at))),
+    }
+}
+
+#[tactic(auto, unfolding(crate::specs::Networks::pins_of))]
+fn read_pins(
+    names: &PinNames<'_>,
+    net: u32,
+    pins: &mut PinNets,
+    args: Cursor<'_>,
+) -> Result<(), ReadWhy>
+    ensures { Gives (λ _. pins.new) result (pins_of names.now.placement.now names.now.library.now net pins.old (forest args.entry)) }
+{
+    let mut rest = args;
+    'words: loop {
+        match front(rest) {
+            Part::End => return Ok(()),
+            Part::Word {
+                at,
+                text,
+                rest: after,
+            } => {
+                read_reference(names, net, pins, Found { at, text })?;
+                rest = after;
+            }
+            Part::List { .. } => {
+                read_over(rest)?;
+                return Ok(());
+            }
+        }
     }
 }
 
 #[tactic(auto, unfolding(crate::specs::Networks::net_item))]
-fn read_net_list(at: u32, inside: Cursor<'_>) -> Result<(), DesignFault>
-    ensures { Tells (λ x. x) result (net_item tt at (forest inside.entry)) }
+fn read_net_list(
+    names: &PinNames<'_>,
+    net: u32,
+    pins: &mut PinNets,
+    at: u32,
+    inside: Cursor<'_>,
+) -> Result<(), ReadWhy>
+    ensures { Gives (λ _. pins.new) result (net_item names.now.placement.now names.now.library.now net pins.old at (forest inside.entry)) }
 {
     let head = opening(inside);
     if !is_word(head.text, b"pins") {
         return Ok(());
     }
-    read_pins(head.args)
+    read_pins(names, net, pins, head.args)
 }
 
 #[tactic(auto, unfolding(dsn_lists::specs::Results::each))]
-fn read_net_lists(list: Cursor<'_>) -> Result<(), DesignFault>
-    ensures { Tells (λ x. x) result (each net_item tt (forest list.entry)) }
+fn read_net_lists(
+    names: &PinNames<'_>,
+    net: u32,
+    pins: &mut PinNets,
+    list: Cursor<'_>,
+) -> Result<(), ReadWhy>
+    ensures { Gives (λ _. pins.new) result (each (net_item names.now.placement.now names.now.library.now net) pins.old (forest list.entry)) }
 {
     let mut rest = list;
     'lists: loop {
         match front(rest) {
             Part::End => return Ok(()),
-            Part::Word { at, .. } => return Err(fault(DesignKind::Form, at)),
+            Part::Word { at, .. } => return Err(ReadWhy::from(fault(DesignKind::Form, at))),
             Part::List {
                 at,
                 inside,
                 rest: after,
             } => {
-                read_net_list(at, inside)?;
+                read_net_list(names, net, pins, at, inside)?;
                 rest = after;
             }
         }
     }
 }
 
-// The name of a net that none of these has.
-#[tactic(auto, unfolding(crate::specs::Networks::net_of))]
-fn net_name<'a>(nets: &NameSet, at: u32, args: Cursor<'a>) -> Result<&'a [u8], DesignFault>
-    ensures told { Tells (λ x. x.now) result (net_of nets.now at (forest args.entry)) }
-    ensures fresh { IfOk result (λ x. is_among x.now nets.now ≡ false) }
+#[tactic(auto, unfolding(crate::specs::Networks::with_net))]
+fn add_net(
+    names: &PinNames<'_>,
+    network: &mut Network,
+    at: u32,
+    args: Cursor<'_>,
+) -> Result<(), ReadWhy>
+    ensures { Gives (λ _. network.new) result (with_net names.now.placement.now names.now.library.now network.old at (forest args.entry)) }
 {
     let (word, rest) = word_at(at, args)?;
-    check_name(nets, word)?;
-    read_net_lists(rest)?;
-    Ok(word.text)
-}
-
-fn add_net(nets: &mut NameSet, at: u32, args: Cursor<'_>) -> Result<(), ReadWhy>
-    ensures { Gives (λ _. nets.new) result (nets_with nets.old at (forest args.entry)) }
-{
-    let name = net_name(nets, at, args)?;
-    nets.add(name)?;
+    let net = check_name(&network.nets, word)?;
+    read_net_lists(names, net, &mut network.pins, rest)?;
+    network.nets.add(word.text)?;
     Ok(())
 }
 
@@ -161,15 +213,16 @@ fn network_word(text: &[u8]) -> NetworkWord
 fn read_list(
     alloc: Global,
     unit: Unit,
+    names: &PinNames<'_>,
     network: &mut Network,
     at: u32,
     inside: Cursor<'_>,
 ) -> Result<(), ReadWhy>
-    ensures { Gives (λ _. network.new) result (network_item unit network.old at (forest inside.entry)) }
+    ensures { Gives (λ _. network.new) result (network_item unit names.now.placement.now names.now.library.now network.old at (forest inside.entry)) }
 {
     let head = opening(inside);
     match network_word(head.text) {
-        NetworkWord::Net => add_net(&mut network.nets, at, head.args),
+        NetworkWord::Net => add_net(names, network, at, head.args),
         NetworkWord::Class => add_class(alloc, unit, network, at, head.args),
         NetworkWord::Unit => {
             unit_at(at, head.args)?;
@@ -184,10 +237,11 @@ fn read_list(
 fn read_lists(
     alloc: Global,
     unit: Unit,
+    names: &PinNames<'_>,
     network: &mut Network,
     list: Cursor<'_>,
 ) -> Result<(), ReadWhy>
-    ensures { Gives (λ _. network.new) result (each (network_item unit) network.old (forest list.entry)) }
+    ensures { Gives (λ _. network.new) result (each (network_item unit names.now.placement.now names.now.library.now) network.old (forest list.entry)) }
 {
     let mut rest = list;
     'lists: loop {
@@ -199,7 +253,7 @@ fn read_lists(
                 inside,
                 rest: after,
             } => {
-                read_list(alloc, unit, network, at, inside)?;
+                read_list(alloc, unit, names, network, at, inside)?;
                 rest = after;
             }
         }
@@ -207,46 +261,66 @@ fn read_lists(
 }
 
 #[tactic(auto, unfolding(crate::specs::Networks::network_at))]
-fn network_at(alloc: Global, unit: Unit, place: Place<'_>) -> Result<Network, ReadWhy>
-    ensures { Gives (λ x. x) result (network_at unit (spotted place.entry)) }
+fn network_at(
+    alloc: Global,
+    unit: Unit,
+    placement: &Placement,
+    library: &Library,
+    place: Place<'_>,
+) -> Result<Network, ReadWhy>
+    ensures { Gives (λ x. x) result (network_at unit placement.now library.now (spotted place.entry)) }
 {
     let unit = unit_for(unit, place.args);
+    let names = PinNames::new(alloc, placement, library)?;
     let mut network = Network {
         nets: NameSet::new(alloc),
+        pins: PinNets::new(alloc),
         classes: Row::new(alloc),
+        room: placement.room,
     };
-    read_lists(alloc, unit, &mut network, place.args)?;
+    read_lists(alloc, unit, &names, &mut network, place.args)?;
     Ok(network)
 }
 
 /// The nets of a design and their classes, or the first fault of the design itself or of the section. The placement and
 /// the library are the design's.
-#[tactic(auto, using(crate::proofs::Fits::network_if_given, crate::proofs::Fits::few_if_given))]
+#[tactic(auto, using(crate::proofs::NetworkFits::network_if_given, crate::proofs::NetworkFits::few_if_given))]
 pub fn read_network(
     alloc: Global,
     tree: &Tree,
-    _placement: &Placement,
-    _library: &Library,
+    placement: &Placement,
+    library: &Library,
 ) -> Result<Network, ReadWhy>
-    ensures read { Gives (λ x. x) result (network_of (tree_forest tree.now)) }
+    ensures read { Gives (λ x. x) result (network_of (tree_forest tree.now) placement.now library.now) }
     // What is read is the network of the design, and a design that has one is read.
-    ensures found { IfOk result (HasNetwork (tree_forest tree.now)) }
-    ensures only { (n : Network) → HasNetwork (tree_forest tree.now) n → Gives (λ x. x) result (Ok n) }
+    ensures found { IfOk result (HasNetwork (tree_forest tree.now) placement.now library.now) }
+    ensures only { (n : Network) → HasNetwork (tree_forest tree.now) placement.now library.now n → Gives (λ x. x) result (Ok n) }
     // What is told is the first fault, and the first fault is told.
-    ensures fault { IfErr result (WhyNot (tree_forest tree.now)) }
-    ensures first { (e : DesignFault) → NetworkFault (tree_forest tree.now) e → Gives (λ x. x) result (Err e) }
+    ensures fault { IfErr result (WhyNot (tree_forest tree.now) placement.now library.now) }
+    ensures first { (e : DesignFault) → NetworkFault (tree_forest tree.now) placement.now library.now e → Gives (λ x. x) result (Err e) }
     // What is read is within the limits.
     ensures fit { IfOk result IsFitNetwork }
     // There are at most 32 classes for each word and list of the text.
     ensures few { IfOk result (λ network. length network.classes ≤ 32 * size (tree_forest tree.now)) }
 {
-    section(alloc, tree)
+    section(alloc, tree, placement, library)
 }
 
 #[tactic(auto, unfolding(crate::specs::Networks::network_of))]
-fn section(alloc: Global, tree: &Tree) -> Result<Network, ReadWhy>
-    ensures { Gives (λ x. x) result (network_of (tree_forest tree.now)) }
+fn section(
+    alloc: Global,
+    tree: &Tree,
+    placement: &Placement,
+    library: &Library,
+) -> Result<Network, ReadWhy>
+    ensures { Gives (λ x. x) result (network_of (tree_forest tree.now) placement.now library.now) }
 {
     let title = title_of(alloc, tree)?;
-    network_at(alloc, title.unit, section_of(tree, Section::Network))
+    network_at(
+        alloc,
+        title.unit,
+        placement,
+        library,
+        section_of(tree, Section::Network),
+    )
 }

@@ -1,47 +1,87 @@
-//! The section that says where the parts are.
-ghost use Rattle.std.specs.Prelude.{◌≡◌};
+//! The section that says where the components are.
+ghost use Rattle.std.specs.Prelude.{◌≡◌, length, Ok, Err, IfOk, IfErr};
 ghost use Rattle.sexp_text.specs.Trees.{tree_forest};
+ghost use Rattle.dsn_lists.specs.declared.faults.DesignFault.{DesignFault};
 ghost use Rattle.dsn_lists.specs.Results.{Gives};
-ghost use Rattle.dsn_lists.specs.Pcbs.{spotted};
-ghost use Rattle.dsn_library.specs.Placements.{placement_at, placement_of};
+ghost use Rattle.dsn_structure.specs.Limits.{IsFitStructure};
+ghost use Rattle.dsn_library.specs.Components.{placement_of};
+ghost use Rattle.dsn_library.specs.Limits.{IsFitLibrary};
+ghost use Rattle.dsn_library.specs.PlaceLimits.{IsFitPlacement};
+ghost use Rattle.dsn_library.specs.PlacementMeaning.{HasPlacement, PlacementFault, WhyNot};
 
 use crate::library::Library;
-use dsn_lists::{DesignKind, NameSet, Place, ReadWhy, Section, fault, section_of, title_of};
+use crate::place_lists::placement_at;
+use area_geometry::Shapes;
+use board_items::KeepKind;
+use dsn_lists::{NameSet, ReadWhy, Section, section_of, title_of};
+use dsn_shapes::Room;
 use dsn_structure::Structure;
+use row_lists::Row;
 use sexp_text::Tree;
 use std::alloc::Global;
 
-/// The parts of a design.
+/// A pad or a keepout of a placed component, at its place on the board, in nm.
+#[derive(Debug, Drop)]
+pub enum Placed {
+    /// A pad of the pin of this number among those of the component's image.
+    Pad {
+        component: usize,
+        pin: usize,
+        shapes: Shapes,
+    },
+    Keep {
+        kind: KeepKind,
+        shapes: Shapes,
+    },
+}
+
+/// The components of a design.
 #[derive(Debug, Drop)]
 pub struct Placement {
-    /// The names of the components.
+    /// The names of the components, placed or unplaced, numbered from 0 in the order of the text.
     pub components: NameSet,
+    /// The number of each component's image.
+    pub images: Row<usize>,
+    /// The pads and keepouts of the placed components, place by place in the order of the text.
+    pub parts: Row<Placed>,
+    /// How many items and points may come behind these.
+    pub room: Room,
 }
 
-// No list of a design begins at byte 0, so a section there is none.
-#[tactic(auto, unfolding(crate::specs::Placements::placement_at))]
-fn placement_at(alloc: Global, place: Place<'_>) -> Result<Placement, ReadWhy>
-    ensures { Gives (λ x. x) result (placement_at (spotted place.entry)) }
+#[tactic(auto, unfolding(crate::specs::Components::placement_of))]
+fn section(
+    alloc: Global,
+    tree: &Tree,
+    structure: &Structure,
+    library: &Library,
+) -> Result<Placement, ReadWhy>
+    requires { IsFitStructure structure.now }
+    ensures { Gives (λ x. x) result (placement_of (tree_forest tree.now) structure.now library.now) }
 {
-    if place.at != 0 {
-        return Err(ReadWhy::from(fault(DesignKind::Later, place.at)));
-    }
-    Ok(Placement {
-        components: NameSet::new(alloc),
-    })
+    let title = title_of(alloc, tree)?;
+    let place = section_of(tree, Section::Placement);
+    placement_at(alloc, title.unit, structure, library, place)
 }
 
-/// The parts of a design, or the first fault of the design itself or of the section. The structure and the library are
-/// the design's. A section is refused as `Later` at its `(`.
-#[tactic(auto, unfolding(crate::specs::Placements::placement_of))]
+/// The components of a design, or the first fault of the design itself or of the section. The structure and the library
+/// are the design's.
 pub fn read_placement(
     alloc: Global,
     tree: &Tree,
-    _structure: &Structure,
-    _library: &Library,
+    structure: &Structure,
+    library: &Library,
 ) -> Result<Placement, ReadWhy>
-    ensures read { Gives (λ x. x) result (placement_of (tree_forest tree.now)) }
+    requires structure { IsFitStructure structure.now }
+    requires library { IsFitLibrary (length structure.now.layers) library.now }
+    ensures read { Gives (λ x. x) result (placement_of (tree_forest tree.now) structure.now library.now) }
+    // What is read is the placement of the design, and a design that has one is read.
+    ensures found { IfOk result (HasPlacement (tree_forest tree.now) structure.now library.now) }
+    ensures only { (p : Placement) → HasPlacement (tree_forest tree.now) structure.now library.now p → Gives (λ x. x) result (Ok p) }
+    // What is told is the first fault, and the first fault is told.
+    ensures fault { IfErr result (WhyNot (tree_forest tree.now) structure.now library.now) }
+    ensures first { (e : DesignFault) → PlacementFault (tree_forest tree.now) structure.now library.now e → Gives (λ x. x) result (Err e) }
+    // What is read is within the limits.
+    ensures fit { IfOk result (IsFitPlacement (length structure.now.layers) structure.now.room) }
 {
-    title_of(alloc, tree)?;
-    placement_at(alloc, section_of(tree, Section::Placement))
+    section(alloc, tree, structure, library)
 }

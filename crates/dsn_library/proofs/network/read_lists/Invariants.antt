@@ -5,7 +5,7 @@ use Rattle.dsn_library.specs.Networks.{network_item}
 use Rattle.dsn_library.proofs.network.read_lists.Given as goal
 
 abbrev pub invariant-lists : goal.invariant-lists
-invariant-lists l = each (network_item l.unit) l.network (forest l.rest) ≡ each (network_item l.unit) l.initial.network (forest l.initial.rest)
+invariant-lists l = each (network_item l.unit l.names.placement.now l.names.library.now) l.network (forest l.rest) ≡ each (network_item l.unit l.names.placement.now l.names.library.now) l.initial.network (forest l.initial.rest)
 
 abbrev pub decreases-lists : goal.decreases-lists
 decreases-lists l = length l.rest.entries.now
