@@ -2,7 +2,7 @@
 use Rattle.std.proofs.Common.{◌≡◌, ℕ, ◌+◌, ◌≤◌, Bool, List, [], ◌∷◌, ◌++◌, map, length, Ok, Err, refl, sym, ap, subst, ◌∙◌, arith, inl, inr}
 use Rattle.std.specs.Prelude.{slice_get}
 use Rattle.std.specs.List.{sum_by}
-use Rattle.std.proofs.lemmas.List.{append-nil, length-append}
+use Rattle.std.proofs.lemmas.List.{append-nil, length-map}
 use Rattle.std.proofs.lemmas.List.Sums.{sum_by-cons}
 use Rattle.sexp_text.specs.Forest.{Forest, End, Word, Branch}
 use Rattle.sexp_text.specs.declared.units.Unit.{Unit as LengthUnit}
@@ -22,12 +22,13 @@ use Rattle.dsn_reader.specs.declared.wiring.WiringWord.{WiringWord}
 use Rattle.dsn_reader.specs.declared.wiring.WiringWord.TheVariants as words
 use Rattle.dsn_reader.specs.Wirings.{Netted, netted, wiring_list, is_fixed}
 use Rattle.dsn_reader.specs.EndLists.{with_names}
-use Rattle.dsn_reader.specs.ViaLists.{points_of_shapes, AreVias}
+use Rattle.dsn_shapes.specs.RoomLists.{points_of_shapes}
+use Rattle.dsn_reader.specs.ViaLists.{AreVias}
 use Rattle.dsn_reader.specs.Meaning.{IsOfWiring, used_by_list, points_of_item, OfWiringFault}
 use Rattle.dsn_reader.proofs.NetLaws.{Grows}
 use Rattle.dsn_reader.proofs.RoomLaws.{IsPut}
 use Rattle.dsn_reader.proofs.WireLaws.{wire_found, wire_again, wire_fault, wire_fault_again}
-use Rattle.dsn_reader.proofs.ViaLaws.{times}
+use Rattle.dsn_reader.proofs.ViaLaws.{times, same_room}
 use Rattle.dsn_reader.proofs.ViaListLaws.{IsViaStep, names_behind, via_list_found, via_list_again, via_list_fault, via_list_fault_again}
 
 -- ---- points of items
@@ -53,18 +54,18 @@ pub record IsAdded (u : LengthUnit) (layers : List (List ℕ)) (l : Library) (fi
   pub few_nets : length y.nets ≤ 100000
   pub is : IsOfWiring u layers l final k f more
   pub items : y.it.items ≡ x.it.items ++ more
-  pub few_items : length y.it.items ≤ 200000
-  pub room : x.it.left ≡ points_in l.stacks more + y.it.left
+  pub count : x.it.room.items ≡ length more + y.it.room.items
+  pub points : x.it.room.points ≡ points_in l.stacks more + y.it.room.points
 
-none_added : (u : LengthUnit) (layers : List (List ℕ)) (l : Library) (x : Netted Wiring) (k : WiringWord) (f : Forest) → used_by_list k f ≡ [] → IsOfWiring u layers l x.nets k f [] → length x.nets ≤ 100000 → length x.it.items ≤ 200000
+none_added : (u : LengthUnit) (layers : List (List ℕ)) (l : Library) (x : Netted Wiring) (k : WiringWord) (f : Forest) → used_by_list k f ≡ [] → IsOfWiring u layers l x.nets k f [] → length x.nets ≤ 100000
     → IsAdded u layers l x.nets x k f [] x
-none_added u layers l x k f none is few some = record {
+none_added u layers l x k f none is few = record {
   nets = ap (λ (names : List (List ℕ)). with_names x.nets names) (sym none);
   few_nets = few;
   is = is;
   items = sym (append-nil x.it.items);
-  few_items = some;
-  room = omega arith;
+  count = omega arith;
+  points = omega arith;
 }
 
 via_step : (u : LengthUnit) (layers : List (List ℕ)) (l : Library) (x : Netted Wiring) (f : Forest) (y : Netted Wiring) → IsViaStep u l y.nets x f y → (more : List Item) × IsAdded u layers l y.nets x words.Via f more y
@@ -75,59 +76,52 @@ via_step u layers l x (Word a text rest) y h =
     let fixed = is_fixed p.fix in
     let more = map (λ q. items.Via p.net h.0 q fixed) p.points in
     let sum = vias_sum l.stacks p.net h.0 (points_of_shapes (shapes_of (slice_get l.stacks h.0))) fixed p.points refl in
-    let room = p.put.room in (
+    let points = p.put.points in (
       more,
       record {
         nets = p.nets ∙ ap (λ (names : List (List ℕ)). with_names x.nets names) (sym (names_behind rest));
         few_nets = p.few;
         is = (h.0, h.1, record { points = p.points; net = p.net; fix = p.fix; pairs = p.pairs; ends = p.ends; near = p.put.near; are = refl });
         items = p.put.items;
-        few_items = p.put.few;
-        room = omega (arith, sum, room);
+        count = p.put.count ∙ ap (λ (n : ℕ). n + y.it.room.items) (sym (length-map p.points (λ q. items.Via p.net h.0 q fixed)));
+        points = omega (arith, sum, points);
       },
     )
 
-pub added_found : (u : LengthUnit) (layers : List (List ℕ)) (l : Library) (x : Netted Wiring) (at : ℕ) (h : Heading) (k : WiringWord) (y : Netted Wiring) → length x.nets ≤ 100000 → length x.it.items ≤ 200000 → wiring_list u layers l x at h k ≡ Ok y
+pub added_found : (u : LengthUnit) (layers : List (List ℕ)) (l : Library) (x : Netted Wiring) (at : ℕ) (h : Heading) (k : WiringWord) (y : Netted Wiring) → length x.nets ≤ 100000 → wiring_list u layers l x at h k ≡ Ok y
     → (more : List Item) × IsAdded u layers l y.nets x k h.args more y
-added_found u layers l x at h words.Wire y few some e =
+added_found u layers l x at h words.Wire y few e =
     let w = wire_found u layers x at h.args y few e in
     let i = items.Wire w.1 w.0.layer w.0.width w.0.points (is_fixed w.2) in
     let put = w.3.put in
     let sum = one_item l.stacks i in
-    let long = length-append x.it.items (i ∷ []) in
-    let same = ap length put.items in
-    let below = put.few in
-    let room = put.room in (
+    let count = put.room.items in
+    let points = put.room.points in (
       i ∷ [],
-      record { nets = w.3.nets; few_nets = w.3.few; is = (i, w.3.wire, refl); items = put.items; few_items = omega (arith, long, same, below); room = omega (arith, sum, room) },
+      record { nets = w.3.nets; few_nets = w.3.few; is = (i, w.3.wire, refl); items = put.items; count = omega (arith, count); points = omega (arith, sum, points) },
     )
-added_found u layers l x at h words.Via y few some e = via_step u layers l x h.args y (via_list_found u l x at h.args y few some e)
-added_found u layers l x at h words.Unit y few some e =
+added_found u layers l x at h words.Via y few e = via_step u layers l x h.args y (via_list_found u l x at h.args y few e)
+added_found u layers l x at h words.Unit y few e =
     let v = bind_ok (unit_list at h.args) (λ _. made x) y e in
-    ([], subst (λ (z : Netted Wiring). IsAdded u layers l z.nets x words.Unit h.args [] z) (ok_is x y v.2) (none_added u layers l x words.Unit h.args refl ((unit_found at h.args v.0 v.1).0, refl) few some))
-added_found u layers l x at h words.Resolution y few some e = absurd cc
-added_found u layers l x at h words.Other y few some e = ([], subst (λ (z : Netted Wiring). IsAdded u layers l z.nets x words.Other h.args [] z) (ok_is x y e) (none_added u layers l x words.Other h.args refl refl few some))
+    ([], subst (λ (z : Netted Wiring). IsAdded u layers l z.nets x words.Unit h.args [] z) (ok_is x y v.2) (none_added u layers l x words.Unit h.args refl ((unit_found at h.args v.0 v.1).0, refl) few))
+added_found u layers l x at h words.Resolution y few e = absurd cc
+added_found u layers l x at h words.Other y few e = ([], subst (λ (z : Netted Wiring). IsAdded u layers l z.nets x words.Other h.args [] z) (ok_is x y e) (none_added u layers l x words.Other h.args refl refl few))
 
-pub same_wiring : (x y : Netted Wiring) → y.nets ≡ x.nets → y.it.items ≡ x.it.items ++ [] → x.it.left ≡ 0 + y.it.left → x ≡ y
-same_wiring x y nets all room =
-    let left : x.it.left ≡ y.it.left = omega (arith, room) in
-    ap (λ (xs : List (List ℕ)). netted xs x.it) (sym nets)
-    ∙ ap (λ (xs : List Item). netted y.nets (record { items = xs; left = x.it.left })) (sym (all ∙ append-nil x.it.items))
-    ∙ ap (λ (n : ℕ). netted y.nets (record { items = y.it.items; left = n })) left
+pub same_wiring : (x y : Netted Wiring) → y.nets ≡ x.nets → y.it.items ≡ x.it.items ++ [] → x.it.room.items ≡ 0 + y.it.room.items → x.it.room.points ≡ 0 + y.it.room.points → x ≡ y
+same_wiring x y nets all count points =
+    ap (λ (xs : List (List ℕ)). netted xs x.it) (sym nets) ∙ ap (λ (w : Wiring). netted y.nets w) (same_room x.it y.it (all ∙ append-nil x.it.items) (omega (arith, count)) (omega (arith, points)))
 
 nothing_added : (u : LengthUnit) (layers : List (List ℕ)) (l : Library) (final : List (List ℕ)) (x : Netted Wiring) (k : WiringWord) (f : Forest) (more : List Item) (y : Netted Wiring) → used_by_list k f ≡ [] → more ≡ [] → IsAdded u layers l final x k f more y → x ≡ y
 nothing_added u layers l final x k f more y none empty a =
-    same_wiring x y (a.nets ∙ ap (λ (names : List (List ℕ)). with_names x.nets names) none) (a.items ∙ ap (λ (is : List Item). x.it.items ++ is) empty) (a.room ∙ ap (λ (is : List Item). points_in l.stacks is + y.it.left) empty)
+    same_wiring x y (a.nets ∙ ap (λ (names : List (List ℕ)). with_names x.nets names) none) (a.items ∙ ap (λ (is : List Item). x.it.items ++ is) empty) (a.count ∙ ap (λ (is : List Item). length is + y.it.room.items) empty) (a.points ∙ ap (λ (is : List Item). points_in l.stacks is + y.it.room.points) empty)
 
 wire_put : (u : LengthUnit) (layers : List (List ℕ)) (l : Library) (final : List (List ℕ)) (x : Netted Wiring) (f : Forest) (more : List Item) (y : Netted Wiring) (i : Item) → more ≡ i ∷ [] → IsAdded u layers l final x words.Wire f more y → IsPut x.it i (points_of_item l.stacks i) y.it
 wire_put u layers l final x f more y i one a =
     let sum = one_item l.stacks i in
     let all : y.it.items ≡ x.it.items ++ i ∷ [] = a.items ∙ ap (λ (is : List Item). x.it.items ++ is) one in
-    let room : x.it.left ≡ points_in l.stacks (i ∷ []) + y.it.left = a.room ∙ ap (λ (is : List Item). points_in l.stacks is + y.it.left) one in
-    let long = length-append x.it.items (i ∷ []) in
-    let same = ap length all in
-    let few = a.few_items in
-    record { items = all; few = omega (arith, long, same, few); room = omega (arith, room, sum) }
+    let count : x.it.room.items ≡ length (i ∷ []) + y.it.room.items = a.count ∙ ap (λ (is : List Item). length is + y.it.room.items) one in
+    let points : x.it.room.points ≡ points_in l.stacks (i ∷ []) + y.it.room.points = a.points ∙ ap (λ (is : List Item). points_in l.stacks is + y.it.room.points) one in
+    record { items = all; room = record { items = omega (arith, count); points = omega (arith, points, sum) } }
 
 vias_step : (u : LengthUnit) (layers : List (List ℕ)) (l : Library) (final : List (List ℕ)) (x : Netted Wiring) (f : Forest) (more : List Item) (y : Netted Wiring) → AreVias u l final f more → IsAdded u layers l final x words.Via f more y → IsViaStep u l final x f y
 vias_step u layers l final x End more y h a = absurd h
@@ -137,7 +131,8 @@ vias_step u layers l final x (Word b text rest) more y h a =
     let fixed = is_fixed v.fix in
     let vias = map (λ q. items.Via v.net h.0 q fixed) v.points in
     let sum = vias_sum l.stacks v.net h.0 (points_of_shapes (shapes_of (slice_get l.stacks h.0))) fixed v.points refl in
-    let room : x.it.left ≡ points_in l.stacks vias + y.it.left = a.room ∙ ap (λ (is : List Item). points_in l.stacks is + y.it.left) v.are in (
+    let count : x.it.room.items ≡ length vias + y.it.room.items = a.count ∙ ap (λ (is : List Item). length is + y.it.room.items) v.are in
+    let points : x.it.room.points ≡ points_in l.stacks vias + y.it.room.points = a.points ∙ ap (λ (is : List Item). points_in l.stacks is + y.it.room.points) v.are in (
       h.0,
       h.1,
       record {
@@ -148,7 +143,7 @@ vias_step u layers l final x (Word b text rest) more y h a =
         nets = a.nets ∙ ap (λ (names : List (List ℕ)). with_names x.nets names) (names_behind rest);
         few = a.few_nets;
         ends = v.ends;
-        put = record { near = v.near; items = a.items ∙ ap (λ (is : List Item). x.it.items ++ is) v.are; few = a.few_items; room = omega (arith, sum, room) };
+        put = record { near = v.near; items = a.items ∙ ap (λ (is : List Item). x.it.items ++ is) v.are; count = count ∙ ap (λ (n : ℕ). n + y.it.room.items) (length-map v.points (λ q. items.Via v.net h.0 q fixed)); points = omega (arith, sum, points) };
       },
     )
 

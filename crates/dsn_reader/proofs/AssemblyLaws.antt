@@ -3,17 +3,18 @@ use Rattle.std.proofs.Common.{◌≡◌, ℕ, zero, suc, ◌-◌, List, [], ◌�
 use Rattle.std.specs.Prelude.{slice_get}
 use Rattle.std.specs.Option.{option_map}
 use Rattle.std.proofs.lemmas.List.{append-nil}
+use Rattle.board_items.specs.declared.items.Item.{Item}
 use Rattle.board_rules.specs.declared.design.ClassRow.{ClassRow}
 use Rattle.board_rules.specs.declared.design.NetRow.{NetRow}
 use Rattle.board_rules.specs.declared.design.Parts.{Parts}
-use Rattle.seg_geometry.specs.declared.points.Pt.{Pt}
 use Rattle.dsn_lists.specs.declared.marks.Mark.{Mark}
 use Rattle.dsn_lists.specs.declared.rules.Rule.{Rule}
 use Rattle.dsn_lists.specs.Names.{place_of}
 use Rattle.dsn_lists.specs.Lists.{last_of}
 use Rattle.dsn_structure.specs.declared.structure.Structure.{Structure}
 use Rattle.dsn_library.specs.declared.classes.Class.{Class}
-use Rattle.dsn_reader.specs.Assembly.{with_number, numbers_of, held_vias, last_vias, class_row, class_rows, all_classes, net_row, row_at, net_rows, Gathered, assembled}
+use Rattle.dsn_library.specs.declared.placement.Placed.{Placed}
+use Rattle.dsn_reader.specs.Assembly.{with_number, numbers_of, held_vias, last_vias, class_row, class_rows, all_classes, net_row, row_at, net_rows, item_of, with_placed, with_items, Gathered, rows_of, with_rows, assembled}
 use Rattle.dsn_reader.specs.Rows.{numbers_by_place, row_of, row_of_class, rows_of_classes, rows_of_nets, laid_out}
 
 -- ---- classes
@@ -85,29 +86,36 @@ nets_are [] cs = refl
 nets_are (name ∷ names) [] = nets_none (length names) name names ∙ ap (λ (rs : List NetRow). net_row name 0 ∷ rs) (nets_are names [])
 nets_are (name ∷ names) (c ∷ cs) = nets_more (length names) name names c cs ∙ ap (λ (rs : List NetRow). net_row name c ∷ rs) (nets_are names cs)
 
+-- ---- items
+
+-- the pads and keepouts are put one by one
+pub placed_are : (pins : List ((ℕ × ℕ) × ℕ)) (is : List Item) (xs : List Placed) → with_placed pins is xs ≡ is ++ map (item_of pins) xs
+unfolding with_placed
+placed_are pins is [] = sym (append-nil is)
+placed_are pins is (x ∷ xs) = placed_are pins (is ++ item_of pins x ∷ []) xs ∙ append_assoc is (item_of pins x ∷ []) (map (item_of pins) xs)
+
+-- items are put one by one
+pub items_are : (is xs : List Item) → with_items is xs ≡ is ++ xs
+unfolding with_items
+items_are is [] = sym (append-nil is)
+items_are is (x ∷ xs) = items_are (is ++ x ∷ []) xs ∙ append_assoc is (x ∷ []) xs
+
+-- the items that are put are those of the design
+pub loaded_are : (pins : List ((ℕ × ℕ) × ℕ)) (keeps : List Item) (parts : List Placed) (wiring : List Item) → with_items (with_placed pins (with_items [] keeps) parts) wiring ≡ keeps ++ (map (item_of pins) parts ++ wiring)
+loaded_are pins keeps parts wiring =
+    items_are (with_placed pins (with_items [] keeps) parts) wiring
+    ∙ ap (λ (is : List Item). is ++ wiring) (placed_are pins (with_items [] keeps) parts)
+    ∙ ap (λ (is : List Item). (is ++ map (item_of pins) parts) ++ wiring) (items_are [] keeps)
+    ∙ append_assoc keeps (map (item_of pins) parts) wiring
+
 -- ---- the design
 
-abbrev parts_with : Gathered → List (List ℕ) → List NetRow → List ClassRow → List (List Pt) → Parts
-parts_with g layers nets classes outline = record {
-  name = g.name;
-  layers = layers;
-  stacks = g.library.stacks;
-  nets = nets;
-  classes = classes;
-  outline = outline;
-  items = g.wiring.items;
-}
-
--- what is made of the rows is the design
-pub laid_by : (g : Gathered) (layers : List (List ℕ)) (numbers : List ℕ) (nets : List NetRow) (classes : List ClassRow) (outline : List (List Pt))
-    → layers ≡ g.structure.layers → numbers ≡ g.numbers → nets ≡ net_rows (length g.nets) g.nets numbers → classes ≡ all_classes g.library.names g.structure g.classes → outline ≡ []
-    → parts_with g layers nets classes outline ≡ laid_out g
-laid_by g layers numbers nets classes outline same_layers same_numbers same_nets same_classes none =
-    ap (λ (x : List (List ℕ)). parts_with g x nets classes outline) same_layers
-    ∙ ap (λ (x : List NetRow). parts_with g g.structure.layers x classes outline) (same_nets ∙ ap (net_rows (length g.nets) g.nets) same_numbers ∙ nets_are g.nets g.numbers)
-    ∙ ap (λ (x : List ClassRow). parts_with g g.structure.layers (rows_of_nets g.nets g.numbers) x outline) (same_classes ∙ classes_are g.library.names g.structure g.classes)
-    ∙ ap (parts_with g g.structure.layers (rows_of_nets g.nets g.numbers) (rows_of_classes g.library.names g.structure g.classes)) none
+abbrev parts_with : Gathered → List NetRow → List ClassRow → List Item → Parts
+parts_with g nets classes is = with_rows g (record { layers = g.structure.layers; nets = nets; classes = classes; items = is })
 
 -- the design that is assembled is that of what was stated
 pub assembled_is : (g : Gathered) → assembled g ≡ laid_out g
-assembled_is g = laid_by g g.structure.layers g.numbers (net_rows (length g.nets) g.nets g.numbers) (all_classes g.library.names g.structure g.classes) [] refl refl refl refl refl
+assembled_is g =
+    ap (λ (x : List NetRow). parts_with g x (rows_of g).classes (rows_of g).items) (nets_are g.nets g.numbers)
+    ∙ ap (λ (x : List ClassRow). parts_with g (rows_of_nets g.nets g.numbers) x (rows_of g).items) (classes_are g.library.names g.structure g.classes)
+    ∙ ap (parts_with g (rows_of_nets g.nets g.numbers) (rows_of_classes g.library.names g.structure g.classes)) (loaded_are g.pins g.structure.keeps g.placement.parts g.wiring.items)

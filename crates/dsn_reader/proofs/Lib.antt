@@ -1,6 +1,7 @@
 pub mod Drops
 pub mod Readings
 pub mod Sound
+pub mod LoadedSound
 pub mod SoundParts
 pub mod TextSizes
 pub mod Fits
@@ -22,7 +23,6 @@ pub mod WireListLaws
 pub mod DraftLaws
 pub mod RoomLaws
 pub mod WireLaws
-pub mod ShapePointLaws
 pub mod NearLaws
 pub mod ViaLaws
 pub mod PlacedLaws

@@ -79,9 +79,9 @@ pub record ArePlaced (u : LengthUnit) (final : List (List ℕ)) (shapes : List S
 ends_with : (nets : List (List ℕ)) (f : Forest) (x : Ends) (n : ℕ) → x.net ≡ Some n → AreEnds nets f x → AreEnds nets f (record { net = Some n; fix = x.fix })
 ends_with nets f x n e h = subst (λ (o : Option ℕ). AreEnds nets f (record { net = o; fix = x.fix })) e h
 
-pub placed_found : (u : LengthUnit) (at : ℕ) (shapes : List Shape) (stack : ℕ) (x : Netted Wiring) (f : Forest) (y : Netted Wiring) → length x.nets ≤ 100000 → length x.it.items ≤ 200000 → behind_stack u at shapes stack x f ≡ Ok y
+pub placed_found : (u : LengthUnit) (at : ℕ) (shapes : List Shape) (stack : ℕ) (x : Netted Wiring) (f : Forest) (y : Netted Wiring) → length x.nets ≤ 100000 → behind_stack u at shapes stack x f ≡ Ok y
     → ArePlaced u y.nets shapes stack x f y
-placed_found u at shapes stack x f y few some e =
+placed_found u at shapes stack x f y few e =
     let c = bind_ok (coordinates u no_coordinates f) (λ c. each end_item (netted x.nets no_ends) c.1 >>= λ e. put_ends at shapes stack x c.0 e) y e in
     let k = coordinates_found u f no_coordinates c.0 c.1 in
     let d = behind no_coordinates k.0 in
@@ -95,7 +95,7 @@ placed_found u at shapes stack x f y few some e =
     let net = bind_ok (some_net at n.0.it.net) (λ net. put_all at shapes stack x n.0 ps.0 net) y ps.2 in
     let has = net_ok at n.0.it.net net.0 net.1 in
     let all = bind_ok (vias_at at (sort shapes stack net.0 n.0.it.fix) x.it ps.0) (λ all. made (netted n.0.nets all)) y net.2 in
-    let put = vias_found at (sort shapes stack net.0 n.0.it.fix) ps.0 x.it all.0 some all.1 in
+    let put = vias_found at (sort shapes stack net.0 n.0.it.fix) ps.0 x.it all.0 all.1 in
     let pairs : StatePoints u 1 (first_words f) d.points = (points_found u (first_words f) k.0 k.1 p.0, p.1) in
     subst (λ (z : Netted Wiring). ArePlaced u z.nets shapes stack x f z) (ok_is (netted n.0.nets all.0) y all.2) (record {
       points = ps.0;
@@ -128,7 +128,7 @@ some_on : {A : Type 0} (o : Option A) (x : A) → o ≡ Some x → is_some o ≡
 some_on o x e = ap is_some e
 
 net_fault : (u : LengthUnit) (at : ℕ) (shapes : List Shape) (stack : ℕ) (x : Netted Wiring) (y : Netted Ends) (ps : List Pt) (o : Option ℕ) (e : DesignFault) → y.it.net ≡ o
-    → (some_net at o >>= λ net. put_all at shapes stack x y ps net) ≡ Err e → ((y.it.net ≡ None) × (e ≡ told kind.Missing at)) ⊎ ((is_some y.it.net ≡ true) × PointFault shapes at (length x.it.items) x.it.left ps e)
+    → (some_net at o >>= λ net. put_all at shapes stack x y ps net) ≡ Err e → ((y.it.net ≡ None) × (e ≡ told kind.Missing at)) ⊎ ((is_some y.it.net ≡ true) × PointFault shapes at x.it.room ps e)
 net_fault u at shapes stack x y ps None e is h = inl (is, cc)
 net_fault u at shapes stack x y ps (Some n) e is h =
     elim (bind_err (vias_at at (sort shapes stack n y.it.fix) x.it ps) (λ all. made (netted y.nets all)) e h) [
@@ -168,7 +168,7 @@ placed_fault u at shapes stack x f e few h =
     ]
 
 net_fault_again : (u : LengthUnit) (at : ℕ) (shapes : List Shape) (stack : ℕ) (x : Netted Wiring) (y : Netted Ends) (ps : List Pt) (o : Option ℕ) (e : DesignFault)
-    → ((o ≡ None) × (e ≡ told kind.Missing at)) ⊎ ((is_some o ≡ true) × PointFault shapes at (length x.it.items) x.it.left ps e) → (some_net at o >>= λ net. put_all at shapes stack x y ps net) ≡ Err e
+    → ((o ≡ None) × (e ≡ told kind.Missing at)) ⊎ ((is_some o ≡ true) × PointFault shapes at x.it.room ps e) → (some_net at o >>= λ net. put_all at shapes stack x y ps net) ≡ Err e
 net_fault_again u at shapes stack x y ps None e (inl h) = ap failed (sym h.1)
 net_fault_again u at shapes stack x y ps None e (inr h) = absurd (let none = h.0 in cc)
 net_fault_again u at shapes stack x y ps (Some n) e (inl h) = absurd (let none = h.0 in cc)

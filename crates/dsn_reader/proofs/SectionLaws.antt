@@ -10,6 +10,7 @@ use Rattle.dsn_lists.specs.Results.{each}
 use Rattle.dsn_lists.specs.Words.{head_of}
 use Rattle.dsn_lists.specs.Lists.{collect}
 use Rattle.dsn_lists.proofs.Firsts.{made, ok_is, bind_ok}
+use Rattle.dsn_shapes.specs.declared.rooms.Room.{Room}
 use Rattle.dsn_library.specs.declared.library.Library.{Library}
 use Rattle.dsn_reader.specs.declared.wiring.Wiring.{Wiring}
 use Rattle.dsn_reader.specs.Wirings.{Netted, netted, wiring_word, wiring_item, no_wiring}
@@ -28,37 +29,40 @@ pub record AreAdded (u : LengthUnit) (layers : List (List ℕ)) (l : Library) (f
   pub few_nets : length y.nets ≤ 100000
   pub are : HaveItems u layers l final f more
   pub items : y.it.items ≡ x.it.items ++ more
-  pub few_items : length y.it.items ≤ 200000
-  pub room : x.it.left ≡ points_in l.stacks more + y.it.left
+  pub count : x.it.room.items ≡ length more + y.it.room.items
+  pub points : x.it.room.points ≡ points_in l.stacks more + y.it.room.points
 
-all_found : (u : LengthUnit) (layers : List (List ℕ)) (l : Library) (f : Forest) (x y : Netted Wiring) → length x.nets ≤ 100000 → length x.it.items ≤ 200000 → each (wiring_item u layers l) x f ≡ Ok y
+all_found : (u : LengthUnit) (layers : List (List ℕ)) (l : Library) (f : Forest) (x y : Netted Wiring) → length x.nets ≤ 100000 → each (wiring_item u layers l) x f ≡ Ok y
     → (more : List Item) × AreAdded u layers l y.nets x f more y
 unfolding each wiring_item
-all_found u layers l End x y few some e = (
+all_found u layers l End x y few e = (
   [],
   subst (λ (z : Netted Wiring). AreAdded u layers l z.nets x End [] z) (ok_is x y e)
-      (record { nets = refl; few_nets = few; are = refl; items = sym (append-nil x.it.items); few_items = some; room = omega arith }),
+      (record { nets = refl; few_nets = few; are = refl; items = sym (append-nil x.it.items); count = omega arith; points = omega arith }),
 )
-all_found u layers l (Word at text rest) x y few some e = absurd cc
-all_found u layers l (Branch at inside rest) x y few some e =
+all_found u layers l (Word at text rest) x y few e = absurd cc
+all_found u layers l (Branch at inside rest) x y few e =
     let m = bind_ok (wiring_item u layers l x at inside) (λ y. each (wiring_item u layers l) y rest) y e in
     let k = wiring_word (head_of inside).text in
-    let here = added_found u layers l x at (head_of inside) (wiring_word (head_of inside).text) m.0 few some m.1 in
+    let here = added_found u layers l x at (head_of inside) (wiring_word (head_of inside).text) m.0 few m.1 in
     let one = here.1 in
-    let later = all_found u layers l rest m.0 y one.few_nets one.few_items m.2 in
+    let later = all_found u layers l rest m.0 y one.few_nets m.2 in
     let others = later.1 in
     let grows : Grows m.0.nets y.nets = subst (λ (xs : List (List ℕ)). Grows m.0.nets xs) (sym others.nets) (grows_with (collect used_in rest) m.0.nets) in
     let sum = sum_by-append (points_of_item l.stacks) here.0 later.0 in
-    let first_room = one.room in
-    let more_room = others.room in (
+    let long = length-append here.0 later.0 in
+    let first_count = one.count in
+    let more_count = others.count in
+    let first_points = one.points in
+    let more_points = others.points in (
       here.0 ++ later.0,
       record {
         nets = others.nets ∙ ap (λ (xs : List (List ℕ)). with_names xs (collect used_in rest)) one.nets ∙ sym (with-append (used_in at inside) (collect used_in rest) x.nets);
         few_nets = others.few_nets;
         are = (here.0, later.0, list_grows u layers l m.0.nets y.nets (wiring_word (head_of inside).text) (head_of inside).args here.0 grows one.is, others.are, refl);
         items = others.items ∙ ap (λ (is : List Item). is ++ later.0) one.items ∙ append_assoc x.it.items here.0 later.0;
-        few_items = others.few_items;
-        room = omega (arith, sum, first_room, more_room);
+        count = omega (arith, long, first_count, more_count);
+        points = omega (arith, sum, first_points, more_points);
       },
     )
 
@@ -66,7 +70,7 @@ all_again : (u : LengthUnit) (layers : List (List ℕ)) (l : Library) (final : L
     → each (wiring_item u layers l) x f ≡ Ok y
 unfolding each wiring_item
 all_again u layers l final End x more y grows a =
-    ap made (same_wiring x y a.nets (a.items ∙ ap (λ (is : List Item). x.it.items ++ is) a.are) (a.room ∙ ap (λ (is : List Item). points_in l.stacks is + y.it.left) a.are))
+    ap made (same_wiring x y a.nets (a.items ∙ ap (λ (is : List Item). x.it.items ++ is) a.are) (a.count ∙ ap (λ (is : List Item). length is + y.it.room.items) a.are) (a.points ∙ ap (λ (is : List Item). points_in l.stacks is + y.it.room.points) a.are))
 all_again u layers l final (Word at text rest) x more y grows a = absurd a.are
 all_again u layers l final (Branch at inside rest) x more y grows a =
     let here = a.are.0 in
@@ -74,46 +78,46 @@ all_again u layers l final (Branch at inside rest) x more y grows a =
     let parts = a.are.4 in
     let middle = with_names x.nets (used_in at inside) in
     let all : y.nets ≡ with_names middle (collect used_in rest) = a.nets ∙ with-append (used_in at inside) (collect used_in rest) x.nets in
-    let m : Netted Wiring = netted middle (record { items = x.it.items ++ here; left = points_in l.stacks later + y.it.left }) in
+    let left : Room = record { items = length later + y.it.room.items; points = points_in l.stacks later + y.it.room.points } in
+    let m : Netted Wiring = netted middle (record { items = x.it.items ++ here; room = left }) in
     let long = long_with (collect used_in rest) middle in
     let few = a.few_nets in
     let same_length = ap length all in
     let items_all : y.it.items ≡ m.it.items ++ later = a.items ∙ ap (λ (is : List Item). x.it.items ++ is) parts ∙ sym (append_assoc x.it.items here later) in
     let sum = sum_by-append (points_of_item l.stacks) here later in
-    let room : x.it.left ≡ points_in l.stacks (here ++ later) + y.it.left = a.room ∙ ap (λ (is : List Item). points_in l.stacks is + y.it.left) parts in
-    let count = length-append m.it.items later in
-    let same_count = ap length items_all in
-    let most = a.few_items in
+    let both = length-append here later in
+    let count : x.it.room.items ≡ length (here ++ later) + y.it.room.items = a.count ∙ ap (λ (is : List Item). length is + y.it.room.items) parts in
+    let points : x.it.room.points ≡ points_in l.stacks (here ++ later) + y.it.room.points = a.points ∙ ap (λ (is : List Item). points_in l.stacks is + y.it.room.points) parts in
     let first : IsAdded u layers l final x (wiring_word (head_of inside).text) (head_of inside).args here m = record {
       nets = refl;
       few_nets = omega (arith, long, few, same_length);
       is = a.are.2;
       items = refl;
-      few_items = omega (arith, count, same_count, most);
-      room = omega (arith, sum, room);
+      count = omega (arith, both, count);
+      points = omega (arith, sum, points);
     } in
     let grows_first : Grows middle final = grows_then middle y.nets final (subst (λ (xs : List (List ℕ)). Grows middle xs) (sym all) (grows_with (collect used_in rest) middle)) grows in
-    let others : AreAdded u layers l final m rest later y = record { nets = all; few_nets = a.few_nets; are = a.are.3; items = items_all; few_items = a.few_items; room = refl } in
+    let others : AreAdded u layers l final m rest later y = record { nets = all; few_nets = a.few_nets; are = a.are.3; items = items_all; count = refl; points = refl } in
     rw (added_again u layers l final x at (head_of inside) (wiring_word (head_of inside).text) here m grows_first first) (all_again u layers l final rest m later y grows others)
 
 -- ---- the section
 
-pub section_found : (u : LengthUnit) (layers : List (List ℕ)) (l : Library) (nets : List (List ℕ)) (f : Forest) (y : Netted Wiring) → length nets ≤ 100000 → each (wiring_item u layers l) (netted nets no_wiring) f ≡ Ok y → IsWiring u layers l nets f y
-section_found u layers l nets f y few e =
-    let h = all_found u layers l f (netted nets no_wiring) y few (omega arith) e in
+pub section_found : (u : LengthUnit) (layers : List (List ℕ)) (l : Library) (nets : List (List ℕ)) (room : Room) (f : Forest) (y : Netted Wiring) → length nets ≤ 100000 → each (wiring_item u layers l) (netted nets (no_wiring room)) f ≡ Ok y → IsWiring u layers l nets room f y
+section_found u layers l nets room f y few e =
+    let h = all_found u layers l f (netted nets (no_wiring room)) y few e in
     let a = h.1 in
     record {
       nets_are = a.nets;
       few_nets = a.few_nets;
       items_are = subst (λ (is : List Item). HaveItems u layers l y.nets f is) (sym a.items) a.are;
-      few_items = a.few_items;
-      room = ap (λ (is : List Item). points_in l.stacks is + y.it.left) a.items ∙ sym a.room;
+      few_items = ap (λ (is : List Item). length is + y.it.room.items) a.items ∙ sym a.count;
+      few_points = ap (λ (is : List Item). points_in l.stacks is + y.it.room.points) a.items ∙ sym a.points;
     }
 
-pub section_again : (u : LengthUnit) (layers : List (List ℕ)) (l : Library) (nets : List (List ℕ)) (f : Forest) (y : Netted Wiring) → IsWiring u layers l nets f y → each (wiring_item u layers l) (netted nets no_wiring) f ≡ Ok y
-section_again u layers l nets f y h =
-    all_again u layers l y.nets f (netted nets no_wiring) y.it.items y (grows_same y.nets)
-    (record { nets = h.nets_are; few_nets = h.few_nets; are = h.items_are; items = refl; few_items = h.few_items; room = sym h.room })
+pub section_again : (u : LengthUnit) (layers : List (List ℕ)) (l : Library) (nets : List (List ℕ)) (room : Room) (f : Forest) (y : Netted Wiring) → IsWiring u layers l nets room f y → each (wiring_item u layers l) (netted nets (no_wiring room)) f ≡ Ok y
+section_again u layers l nets room f y h =
+    all_again u layers l y.nets f (netted nets (no_wiring room)) y.it.items y (grows_same y.nets)
+    (record { nets = h.nets_are; few_nets = h.few_nets; are = h.items_are; items = refl; count = sym h.few_items; points = sym h.few_points })
 
 abbrev OfWiring : LengthUnit → List (List ℕ) → Library → Netted Wiring → ℕ → Forest → DesignFault → Type 0
 OfWiring u layers l x at inside e = OfWiringFault u layers l x at (head_of inside) (wiring_word (head_of inside).text) e
@@ -126,12 +130,12 @@ item_fault_again : (u : LengthUnit) (layers : List (List ℕ)) (l : Library) (x 
 unfolding wiring_item
 item_fault_again u layers l x at inside e h = added_fault_again u layers l x at (head_of inside) (wiring_word (head_of inside).text) e h
 
-pub section_fault : (u : LengthUnit) (layers : List (List ℕ)) (l : Library) (nets : List (List ℕ)) (f : Forest) (e : DesignFault) → length nets ≤ 100000 → each (wiring_item u layers l) (netted nets no_wiring) f ≡ Err e → IsFirstFault u layers l nets f e
-section_fault u layers l nets f e few h =
-    firsts_found (wiring_item u layers l) (netted nets no_wiring) (IsWiring u layers l nets) (OfWiring u layers l) (λ f y k. section_found u layers l nets f y few k)
+pub section_fault : (u : LengthUnit) (layers : List (List ℕ)) (l : Library) (nets : List (List ℕ)) (room : Room) (f : Forest) (e : DesignFault) → length nets ≤ 100000 → each (wiring_item u layers l) (netted nets (no_wiring room)) f ≡ Err e → IsFirstFault u layers l nets room f e
+section_fault u layers l nets room f e few h =
+    firsts_found (wiring_item u layers l) (netted nets (no_wiring room)) (IsWiring u layers l nets room) (OfWiring u layers l) (λ f y k. section_found u layers l nets room f y few k)
     (λ f y at inside e has k. item_fault u layers l y at inside e has.few_nets k) f e h
 
-pub section_fault_again : (u : LengthUnit) (layers : List (List ℕ)) (l : Library) (nets : List (List ℕ)) (f : Forest) (e : DesignFault) → IsFirstFault u layers l nets f e → each (wiring_item u layers l) (netted nets no_wiring) f ≡ Err e
-section_fault_again u layers l nets f e h =
-    firsts_again (wiring_item u layers l) (netted nets no_wiring) (IsWiring u layers l nets) (OfWiring u layers l) (section_again u layers l nets)
+pub section_fault_again : (u : LengthUnit) (layers : List (List ℕ)) (l : Library) (nets : List (List ℕ)) (room : Room) (f : Forest) (e : DesignFault) → IsFirstFault u layers l nets room f e → each (wiring_item u layers l) (netted nets (no_wiring room)) f ≡ Err e
+section_fault_again u layers l nets room f e h =
+    firsts_again (wiring_item u layers l) (netted nets (no_wiring room)) (IsWiring u layers l nets room) (OfWiring u layers l) (section_again u layers l nets room)
     (λ f y at inside e has k. item_fault_again u layers l y at inside e k) f e h

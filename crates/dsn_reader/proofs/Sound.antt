@@ -15,7 +15,7 @@ use Rattle.board_items.specs.declared.items.Item.TheVariants as items
 use Rattle.board_items.specs.declared.items.Padstack.{Padstack}
 use Rattle.board_items.specs.Shapes.{shapes_of, copper_of_item}
 use Rattle.board_rules.specs.declared.design.Parts.{Parts}
-use Rattle.board_rules.specs.Designs.{IsFitShape, IsFitItem, NamesThere}
+use Rattle.board_rules.specs.Designs.{IsFitItem, NamesThere}
 use Rattle.dsn_lists.specs.declared.faults.DesignKind.TheVariants as kind
 use Rattle.dsn_lists.specs.declared.marks.Mark.{Mark}
 use Rattle.dsn_lists.specs.declared.places.Coordinates.{Coordinates}
@@ -29,8 +29,11 @@ use Rattle.dsn_lists.specs.Layers.{one_layer}
 use Rattle.dsn_lists.specs.Shapes.{path_of}
 use Rattle.dsn_lists.specs.Pcbs.{Spot, design_of, section_in}
 use Rattle.dsn_lists.proofs.Bounds.{ok_is, err_gives, bind_ok, then_ok, else_ok, each_keeps, all_push, place_bound, one_layer_bound, path_of_bound}
+use Rattle.dsn_shapes.specs.declared.rooms.Room.{Room}
+use Rattle.dsn_shapes.specs.Limits.{AreFitDrawn}
+use Rattle.dsn_shapes.specs.Rooms.{room_for, room_behind}
 use Rattle.dsn_library.specs.declared.library.Library.{Library}
-use Rattle.dsn_library.specs.Limits.{IsFitLibrary}
+use Rattle.dsn_library.specs.Limits.{IsFitStack, IsFitLibrary}
 use Rattle.dsn_reader.specs.declared.ends.Ends.{Ends}
 use Rattle.dsn_reader.specs.declared.ends.EndWord.{EndWord}
 use Rattle.dsn_reader.specs.declared.ends.EndWord.TheVariants as ends
@@ -41,7 +44,7 @@ use Rattle.dsn_reader.specs.declared.wires.WireWord.TheVariants as wires
 use Rattle.dsn_reader.specs.declared.wiring.Wiring.{Wiring}
 use Rattle.dsn_reader.specs.declared.wiring.WiringWord.{WiringWord}
 use Rattle.dsn_reader.specs.declared.wiring.WiringWord.TheVariants as words
-use Rattle.dsn_reader.specs.Wirings.{Netted, netted, numbered, net_number, type_list, net_list, type_once, end_word, end_list, end_item, no_ends, is_fixed, less, with_item, track_of, path_once, wire_word, ended_draft, wire_list, wire_item, no_draft, wire_with, as_wire, wire_of, known_stack, is_near, is_point_near, is_shape_near, are_near, less_all, Kindred, via_at, vias_at, as_points, some_net, via_of, wiring_word, wiring_list, wiring_item, no_wiring, wiring_at, wiring_of}
+use Rattle.dsn_reader.specs.Wirings.{Netted, netted, numbered, net_number, type_list, net_list, type_once, end_word, end_list, end_item, no_ends, is_fixed, with_item, track_of, path_once, wire_word, ended_draft, wire_list, wire_item, no_draft, wire_with, as_wire, wire_of, known_stack, is_near, is_point_near, is_shape_near, are_near, Kindred, via_at, vias_at, as_points, some_net, via_of, wiring_word, wiring_list, wiring_item, no_wiring, wiring_at, wiring_of}
 use Rattle.dsn_reader.specs.Limits.{NamesOneOf, IsFitLoaded, IsFitWiring}
 
 -- ---- nets
@@ -114,16 +117,11 @@ all_more_nets n m layers stacks (x ∷ xs) low p = (more_nets n m layers stacks 
 
 -- the items so far, for so many nets
 abbrev AreFitItems : ℕ → ℕ → List Padstack → Wiring → Type 0
-AreFitItems n layers stacks w = (length w.items ≤ 200000) × AllByRecursion (IsFitLoaded n layers stacks) w.items
+AreFitItems n layers stacks w = AllByRecursion (IsFitLoaded n layers stacks) w.items
 
-fit_with_item : (n layers : ℕ) (stacks : List Padstack) (at : ℕ) (w : Wiring) (i : Item) (o : Option ℕ) (y : Wiring) → IsFitLoaded n layers stacks i → AreFitItems n layers stacks w → with_item at w i o ≡ Ok y → AreFitItems n layers stacks y
+fit_with_item : (n layers : ℕ) (stacks : List Padstack) (at : ℕ) (w : Wiring) (i : Item) (o : Option Room) (y : Wiring) → IsFitLoaded n layers stacks i → AreFitItems n layers stacks w → with_item at w i o ≡ Ok y → AreFitItems n layers stacks y
 fit_with_item n layers stacks at w i None y fit p e = absurd (err_gives e)
-fit_with_item n layers stacks at w i (Some left) y fit p e =
-    let a = else_ok (nat_lt 199999 (length w.items)) (Ok (record { items = w.items ++ i ∷ []; left = left })) kind.Large at y e in
-    let room : length w.items < 200000 = grind (arith, a.0) in
-    let more = length-append w.items (i ∷ []) in
-    let own : AreFitItems n layers stacks (record { items = w.items ++ i ∷ []; left = left }) = (omega (arith, more, room), all_push (IsFitLoaded n layers stacks) w.items i p.1 fit) in
-    subst (AreFitItems n layers stacks) (ok_is a.1) own
+fit_with_item n layers stacks at w i (Some room) y fit p e = subst (AreFitItems n layers stacks) (ok_is {x = record { items = w.items ++ i ∷ []; room = room }} e) (all_push (IsFitLoaded n layers stacks) w.items i p fit)
 
 -- ---- wires
 
@@ -178,7 +176,7 @@ fit_wire_with n layers stacks at w (Some t) (Some net) fix y track below p e =
       there = (below, track.0);
       copper = (record { points = All-from_recursion IsInRange t.points track.2; width = track.1 }, tt);
     } in
-    fit_with_item n layers stacks at w (items.Wire net t.layer t.width t.points (is_fixed fix)) (less w.left (length t.points)) y own p e
+    fit_with_item n layers stacks at w (items.Wire net t.layer t.width t.points (is_fixed fix)) (room_for w.room (length t.points)) y own p e
 fit_wire_with n layers stacks at w (Some t) None fix y track below p e = absurd (err_gives e)
 fit_wire_with n layers stacks at w None net fix y track below p e = absurd (err_gives e)
 
@@ -198,8 +196,8 @@ fit_wire_of u layers stacks x at f y p e =
     let a = bind_ok (each (wire_item u layers) (netted x.nets no_draft) f) _ y e in
     let b = bind_ok (as_wire at x.it a.0.it) _ y a.2 in
     let d = each_keeps (IsFitDraft (length x.nets) (length layers)) (wire_item u layers) (fit_wire_item (length x.nets) u layers) (netted x.nets no_draft) f a.0 (no_draft_fit x.nets (length layers) p.0) a.1 in
-    let old = all_more_nets (length x.nets) (length a.0.nets) (length layers) stacks x.it.items d.0.0.0 p.1.1 in
-    let own : IsFitSoFar (length layers) stacks (netted a.0.nets b.0) = (d.0.0.1, fit_as_wire (length a.0.nets) (length layers) stacks at x.it a.0.it b.0 d.1 d.0.1 (p.1.0, old) b.1) in
+    let old = all_more_nets (length x.nets) (length a.0.nets) (length layers) stacks x.it.items d.0.0.0 p.1 in
+    let own : IsFitSoFar (length layers) stacks (netted a.0.nets b.0) = (d.0.0.1, fit_as_wire (length a.0.nets) (length layers) stacks at x.it a.0.it b.0 d.1 d.0.1 old b.1) in
     subst (IsFitSoFar (length layers) stacks) (ok_is b.2) own
 
 -- ---- vias
@@ -243,7 +241,7 @@ fit_via_at n layers stacks at v w p y fit old e =
       there = (fit.0, fit.1);
       copper = subst (λ (ss : List Shape). AllByRecursion IsWithinLimits (map (placed p) ss)) (sym fit.2) (near_shapes p v.shapes fit.3 a.0);
     } in
-    fit_with_item n layers stacks at w (items.Via v.net v.stack p v.fix) (less_all (Some w.left) v.shapes) y own old a.1
+    fit_with_item n layers stacks at w (items.Via v.net v.stack p v.fix) (room_behind w.room v.shapes) y own old a.1
 
 fit_vias_at : (n layers : ℕ) (stacks : List Padstack) (at : ℕ) (v : Kindred) (w : Wiring) (ps : List Pt) (y : Wiring) → IsFitKindred n stacks v → AreFitItems n layers stacks w → vias_at at v w ps ≡ Ok y → AreFitItems n layers stacks y
 unfolding vias_at
@@ -260,11 +258,11 @@ some_net_is : (at n : ℕ) (o : Option ℕ) → some_net at o ≡ Ok n → o ≡
 some_net_is at n (Some m) e = ap (λ (k : ℕ). Some k) (ok_is e)
 some_net_is at n None e = absurd (err_gives e)
 
-thin_shapes : (layers : ℕ) (ss : List Shape) → AllByRecursion (IsFitShape layers) ss → AllByRecursion IsThin ss
+thin_shapes : (layers : ℕ) (ss : List Shape) → AreFitDrawn layers ss → AllByRecursion IsThin ss
 thin_shapes layers [] p = tt
-thin_shapes layers (s ∷ ss) p = (p.0.width, thin_shapes layers ss p.1)
+thin_shapes layers (s ∷ ss) p = (p.0.fit.width, thin_shapes layers ss p.1)
 
-thin_at : (layers n : ℕ) (stacks : List Padstack) → AllByRecursion (λ (s : Padstack). AllByRecursion (IsFitShape layers) s.shapes) stacks → AllByRecursion IsThin (shapes_of (slice_get stacks n))
+thin_at : (layers n : ℕ) (stacks : List Padstack) → AllByRecursion (IsFitStack layers) stacks → AllByRecursion IsThin (shapes_of (slice_get stacks n))
 thin_at layers n [] p = tt
 thin_at layers zero (s ∷ stacks) p = thin_shapes layers s.shapes p.0
 thin_at layers (suc n) (s ∷ stacks) p = thin_at layers n stacks p.1
@@ -310,8 +308,8 @@ fit_via_of : (u : LengthUnit) (layers : ℕ) (l : Library) (x : Netted Wiring) (
 fit_via_of u layers l x at f y library p e =
     let s = ends_of u l x at f y e in
     let end = each_keeps (IsFitEnds (length x.nets)) end_item (fit_end_item (length x.nets)) (netted x.nets no_ends) s.1 s.0 (no_ends_fit x.nets p.0) s.5 in
-    let old = all_more_nets (length x.nets) (length s.0.nets) layers l.stacks x.it.items end.0.0 p.1.1 in
-    fit_behind layers l x.it at s.3 s.2 s.4 s.0 y library s.6 end.0.1 end.1 (p.1.0, old) s.7
+    let old = all_more_nets (length x.nets) (length s.0.nets) layers l.stacks x.it.items end.0.0 p.1 in
+    fit_behind layers l x.it at s.3 s.2 s.4 s.0 y library s.6 end.0.1 end.1 old s.7
 
 -- ---- the section
 
@@ -326,17 +324,17 @@ fit_wiring_item : (u : LengthUnit) (layers : List (List ℕ)) (l : Library) → 
 unfolding wiring_item
 fit_wiring_item u layers l library x at inside y p e = fit_wiring_list u layers l library x at (head_of inside) (wiring_word (head_of inside).text) y p e
 
-fit_wiring_at : (u : LengthUnit) (layers : List (List ℕ)) (l : Library) (nets : List (List ℕ)) (s : Spot) (y : Netted Wiring) → IsFitLibrary (length layers) l → length nets ≤ 100000 → wiring_at u layers l nets s ≡ Ok y → IsFitSoFar (length layers) l.stacks y
+fit_wiring_at : (u : LengthUnit) (layers : List (List ℕ)) (l : Library) (nets : List (List ℕ)) (room : Room) (s : Spot) (y : Netted Wiring) → IsFitLibrary (length layers) l → length nets ≤ 100000 → wiring_at u layers l nets room s ≡ Ok y → IsFitSoFar (length layers) l.stacks y
 unfolding wiring_at
-fit_wiring_at u layers l nets s y library few e =
-    each_keeps (IsFitSoFar (length layers) l.stacks) (wiring_item (governing u s.args) layers l) (fit_wiring_item (governing u s.args) layers l library) (netted nets no_wiring) s.args y (few, (omega arith, tt)) e
+fit_wiring_at u layers l nets room s y library few e =
+    each_keeps (IsFitSoFar (length layers) l.stacks) (wiring_item (governing u s.args) layers l) (fit_wiring_item (governing u s.args) layers l library) (netted nets (no_wiring room)) s.args y (few, tt) e
 
-pub wiring_of_fit : (f : Forest) (layers : List (List ℕ)) (l : Library) (nets : List (List ℕ)) (y : Netted Wiring) → IsFitLibrary (length layers) l → length nets ≤ 100000 → wiring_of f layers l nets ≡ Ok y → IsFitWiring (length layers) l.stacks y
+pub wiring_of_fit : (f : Forest) (layers : List (List ℕ)) (l : Library) (nets : List (List ℕ)) (room : Room) (y : Netted Wiring) → IsFitLibrary (length layers) l → length nets ≤ 100000 → wiring_of f layers l nets room ≡ Ok y → IsFitWiring (length layers) l.stacks y
 unfolding wiring_of
-wiring_of_fit f layers l nets y library few e =
+wiring_of_fit f layers l nets room y library few e =
     let a = bind_ok (design_of f) _ y e in
-    let s = fit_wiring_at a.0.unit layers l nets (section_in sections.Wiring f) y library few a.2 in
-    record { nets = s.0; count = s.1.0; items = s.1.1 }
+    let s = fit_wiring_at a.0.unit layers l nets room (section_in sections.Wiring f) y library few a.2 in
+    record { nets = s.0; items = s.1 }
 
 -- ---- items of a design
 

@@ -41,13 +41,13 @@ stack_ok : (a : ℕ) (o : Option ℕ) (n : ℕ) → known_stack a o ≡ Ok n →
 stack_ok a None n e = absurd cc
 stack_ok a (Some m) n e = ap (λ (k : ℕ). Some k) (ok_is m n e)
 
-pub via_list_found : (u : LengthUnit) (l : Library) (x : Netted Wiring) (at : ℕ) (f : Forest) (y : Netted Wiring) → length x.nets ≤ 100000 → length x.it.items ≤ 200000 → via_of u l x at f ≡ Ok y → IsViaStep u l y.nets x f y
+pub via_list_found : (u : LengthUnit) (l : Library) (x : Netted Wiring) (at : ℕ) (f : Forest) (y : Netted Wiring) → length x.nets ≤ 100000 → via_of u l x at f ≡ Ok y → IsViaStep u l y.nets x f y
 unfolding via_of word_of
-via_list_found u l x at End y few some e = absurd cc
-via_list_found u l x at (Branch a inside rest) y few some e = absurd cc
-via_list_found u l x at (Word a text rest) y few some e =
+via_list_found u l x at End y few e = absurd cc
+via_list_found u l x at (Branch a inside rest) y few e = absurd cc
+via_list_found u l x at (Word a text rest) y few e =
     let n = bind_ok (known_stack a (place_of l.names text)) (λ stack. behind_stack u at (shapes_at l stack) stack x rest) y e in
-    (n.0, stack_ok a (place_of l.names text) n.0 n.1, placed_found u at (shapes_at l n.0) n.0 x rest y few some n.2)
+    (n.0, stack_ok a (place_of l.names text) n.0 n.1, placed_found u at (shapes_at l n.0) n.0 x rest y few n.2)
 
 pub via_list_again : (u : LengthUnit) (l : Library) (final : List (List ℕ)) (x : Netted Wiring) (at : ℕ) (f : Forest) (y : Netted Wiring) → Grows y.nets final → IsViaStep u l final x f y → via_of u l x at f ≡ Ok y
 unfolding via_of word_of

@@ -8,7 +8,9 @@ use Rattle.dsn_lists.specs.declared.faults.DesignFault.{DesignFault}
 use Rattle.dsn_lists.specs.declared.faults.DesignKind.TheVariants as kind
 use Rattle.dsn_lists.specs.declared.pcb.Section.TheVariants as sections
 use Rattle.dsn_lists.specs.declared.pcb.Title.{Title}
-use Rattle.dsn_lists.specs.Results.{Read, wrong, ◌>>=◌}
+use Rattle.dsn_lists.specs.declared.faults.ReadWhy.{ReadWhy}
+use Rattle.dsn_lists.specs.declared.faults.ReadWhy.TheVariants.{Fault, Memory}
+use Rattle.dsn_lists.specs.Results.{Read, Fails, wrong, ◌>>=◌}
 use Rattle.dsn_lists.specs.Lists.{told}
 use Rattle.dsn_lists.specs.Pcbs.{Spot, design_of, section_in}
 use Rattle.dsn_lists.specs.Titles.{IsTitle, TitleFault}
@@ -23,16 +25,17 @@ use Rattle.dsn_library.specs.declared.library.Library.{Library}
 use Rattle.dsn_library.specs.declared.network.Network.{Network}
 use Rattle.dsn_library.specs.declared.placement.Placement.{Placement}
 use Rattle.dsn_library.specs.Libraries.{library_of}
-use Rattle.dsn_library.specs.Placements.{no_placement, placement_at, placement_of}
+use Rattle.dsn_library.specs.Components.{placement_of}
 use Rattle.dsn_library.specs.Networks.{network_of}
 use Rattle.dsn_reader.specs.declared.wiring.Wiring.{Wiring}
 use Rattle.dsn_reader.specs.Wirings.{Netted, wiring_of}
 use Rattle.dsn_reader.specs.Assembly.{Gathered, Wired, known_vias, classes_of, assembled, wired_of, behind_library, sections_of, parts_of}
 use Rattle.dsn_reader.specs.Rows.{via_names, AreKnown, ViaNameFault, laid_out}
-use Rattle.dsn_reader.specs.Whole.{placement_byte, gathering, States, FaultBehindNetwork, FaultBehindPlacement, FaultBehindLibrary, FaultBehindStructure, ListFault}
+use Rattle.dsn_reader.specs.Whole.{gathering, States, FaultBehindNetwork, FaultBehindPlacement, FaultBehindLibrary, FaultBehindStructure, ListFault}
 use Rattle.dsn_library.specs.LibraryMeaning.{HasLibrary, LibraryFault}
 use Rattle.dsn_library.specs.NetworkMeaning.{HasNetwork, NetworkFault}
-use Rattle.dsn_library.proofs.Sound.{network_of_fit}
+use Rattle.dsn_library.proofs.NetworkSound.{network_of_fit}
+use Rattle.dsn_library.proofs.PlacementWhole.{has_found as placement_found, has_again as placement_again, why_found as placement_why, why_again as why_placement}
 use Rattle.dsn_library.proofs.LibraryWhole.{has_found as library_found, has_again as library_again, why_found as library_why, why_again as why_library}
 use Rattle.dsn_library.proofs.NetworkWhole.{has_found as network_found, has_again as network_again, why_found as network_why, why_again as why_network}
 use Rattle.dsn_reader.specs.Meaning.{HasWiring, WiringFault}
@@ -46,81 +49,41 @@ wronged d = Err d
 err_is : {A : Type 0} {d e : DesignFault} → wronged {A = A} d ≡ Err e → d ≡ e
 err_is {A} {d} {e} h = subst (λ (r : Read A). MatchResult r (λ _. ⊤) (λ x. d ≡ x)) h refl
 
--- ---- the placement
-
-abbrev placed : ℕ → Read Placement
-placed n = if n == 0 then Ok no_placement else wrong kind.Later n
-
-at_suc : (n : ℕ) → placed (suc n) ≡ Err (told kind.Later (suc n))
-at_suc n = rw (eqb-suc-zero n) refl
-
-at_none : (n : ℕ) (p : Placement) → placed n ≡ Ok p → n ≡ 0
-at_none zero p e = refl
-at_none (suc n) p e = absurd (err_gives (sym (at_suc n) ∙ e))
-
-at_why : (n : ℕ) (e : DesignFault) → placed n ≡ Err e → (0 < n) × (e ≡ told kind.Later n)
-at_why zero e h = absurd (err_gives (sym h))
-at_why (suc n) e h = (omega arith, sym (err_is (sym (at_suc n) ∙ h)))
-
-why_at : (n : ℕ) (e : DesignFault) → 0 < n → e ≡ told kind.Later n → placed n ≡ Err e
-why_at zero e more same = absurd (grind (arith, more))
-why_at (suc n) e more same = at_suc n ∙ ap (λ (d : DesignFault). Err d) (sym same)
-
-placement_none : (f : Forest) (p : Placement) → placement_of f ≡ Ok p → placement_byte f ≡ 0
-unfolding placement_of placement_at
-placement_none f p e =
-    let t = bind_ok (design_of f) (λ _. placed (placement_byte f)) p e in
-    at_none (placement_byte f) p t.2
-
-placement_again : (f : Forest) (t : Title) → IsTitle f t → placement_byte f ≡ 0 → placement_of f ≡ Ok no_placement
-unfolding placement_of placement_at
-placement_again f t titled none = rw (title_again f t titled, none) refl
-
-placement_why : (f : Forest) (t : Title) (e : DesignFault) → design_of f ≡ Ok t → placement_of f ≡ Err e → (0 < placement_byte f) × (e ≡ told kind.Later (placement_byte f))
-unfolding placement_of placement_at
-placement_why f t e titled h =
-    elim (bind_err (design_of f) (λ _. placed (placement_byte f)) e h) [
-      | inl here ↦ absurd (err_gives (sym here ∙ titled))
-      | inr later ↦ at_why (placement_byte f) e later.2
-    ]
-
-why_placement : (f : Forest) (t : Title) (e : DesignFault) → IsTitle f t → 0 < placement_byte f → e ≡ told kind.Later (placement_byte f) → placement_of f ≡ Err e
-unfolding placement_of placement_at
-why_placement f t e titled more same = rw (title_again f t titled) (why_at (placement_byte f) e more same)
-
 -- ---- what stands
 
 -- what is found behind the library
 record Behind (f : Forest) (name : List ℕ) (s : Structure) (l : Library) (g : Gathered) : Type 0 where
-  unplaced : placement_byte f ≡ 0
+  placement : Placement
   network : Network
   wired : Netted Wiring
-  connected : network_of f ≡ Ok network
-  laid : wiring_of f s.layers l network.nets ≡ Ok wired
+  placed : placement_of f s l ≡ Ok placement
+  connected : network_of f placement l ≡ Ok network
+  laid : wiring_of f s.layers l network.nets network.room ≡ Ok wired
   known : known_vias l.names s network.classes ≡ Ok tt
-  same : record { name = name; structure = s; library = l; classes = network.classes; numbers = classes_of network; nets = wired.nets; wiring = wired.it } ≡ g
+  same : record { name = name; structure = s; library = l; placement = placement; classes = network.classes; pins = network.pins; numbers = classes_of network; nets = wired.nets; wiring = wired.it } ≡ g
 
-abbrev with_wired : List ℕ → Structure → Library → Network → Wired → Gathered
-with_wired name s l n x = record { name = name; structure = s; library = l; classes = n.classes; numbers = x.numbers; nets = x.nets; wiring = x.wiring }
+abbrev with_wired : List ℕ → Structure → Library → Placement → Network → Wired → Gathered
+with_wired name s l p n x = record { name = name; structure = s; library = l; placement = p; classes = n.classes; pins = n.pins; numbers = x.numbers; nets = x.nets; wiring = x.wiring }
 
 behind_found : (f : Forest) (name : List ℕ) (s : Structure) (l : Library) (g : Gathered) → behind_library f name s l ≡ Ok g → Behind f name s l g
 unfolding behind_library wired_of
 behind_found f name s l g e =
-    let d = bind_ok (placement_of f) _ g e in
-    let h = bind_ok (network_of f) _ g d.2 in
+    let d = bind_ok (placement_of f s l) _ g e in
+    let h = bind_ok (network_of f d.0 l) _ g d.2 in
     let w = bind_ok (wired_of f s l h.0) _ g h.2 in
-    let k = bind_ok (wiring_of f s.layers l h.0.nets) _ w.0 w.1 in
+    let k = bind_ok (wiring_of f s.layers l h.0.nets h.0.room) _ w.0 w.1 in
     let m = bind_ok (known_vias l.names s h.0.classes) _ w.0 k.2 in
-    let last : with_wired name s l h.0 w.0 ≡ g = ok_is w.2 in
+    let last : with_wired name s l d.0 h.0 w.0 ≡ g = ok_is w.2 in
     let own : record { nets = k.0.nets; numbers = classes_of h.0; wiring = k.0.it } ≡ w.0 = ok_is m.2 in
     record {
-      unplaced = placement_none f d.0 d.1;
+      placement = d.0;
       network = h.0;
       wired = k.0;
+      placed = d.1;
       connected = h.1;
       laid = k.1;
       known = m.1;
-      same = ap (λ (x : Wired). with_wired name s l h.0 x) own ∙ last;
+      same = ap (λ (x : Wired). with_wired name s l d.0 h.0 x) own ∙ last;
     }
 
 pub states_found : (f : Forest) (p : Parts) → parts_of f ≡ Ok p → States f p
@@ -136,27 +99,28 @@ states_found f p e =
       title = a.0;
       structure = b.0;
       library = c.0;
+      placement = x.placement;
       network = x.network;
       wired = x.wired;
       titled = title_found f a.0 a.1;
       structured = has_found f b.0 b.1;
       stocked = library_found f b.0.layers c.0 c.1;
-      unplaced = x.unplaced;
-      connected = network_found f x.network x.connected;
-      laid = wiring_found f b.0.layers c.0 x.network.nets x.wired (network_of_fit f x.network x.connected).few x.laid;
+      placed = placement_found f b.0 c.0 x.placement x.placed;
+      connected = network_found f x.placement c.0 x.network x.connected;
+      laid = wiring_found f b.0.layers c.0 x.network.nets x.network.room x.wired (network_of_fit f x.placement c.0 x.network x.connected).few x.laid;
       known = vias_known c.0.names b.0 x.network.classes x.known;
       is = sym is ∙ assembled_is g.0 ∙ ap laid_out (sym x.same);
     }
 
-wired_again : (f : Forest) (s : Structure) (l : Library) (n : Network) (w : Netted Wiring) → wiring_of f s.layers l n.nets ≡ Ok w → known_vias l.names s n.classes ≡ Ok tt
+wired_again : (f : Forest) (s : Structure) (l : Library) (n : Network) (w : Netted Wiring) → wiring_of f s.layers l n.nets n.room ≡ Ok w → known_vias l.names s n.classes ≡ Ok tt
     → wired_of f s l n ≡ Ok (record { nets = w.nets; numbers = classes_of n; wiring = w.it })
 unfolding wired_of
 wired_again f s l n w laid known = rw (laid, known) refl
 
-behind_again : (f : Forest) (t : Title) (s : Structure) (l : Library) (n : Network) (w : Netted Wiring) → placement_of f ≡ Ok no_placement → network_of f ≡ Ok n
-    → wired_of f s l n ≡ Ok (record { nets = w.nets; numbers = classes_of n; wiring = w.it }) → behind_library f t.name s l ≡ Ok (gathering t s l n w)
+behind_again : (f : Forest) (t : Title) (s : Structure) (l : Library) (p : Placement) (n : Network) (w : Netted Wiring) → placement_of f s l ≡ Ok p → network_of f p l ≡ Ok n
+    → wired_of f s l n ≡ Ok (record { nets = w.nets; numbers = classes_of n; wiring = w.it }) → behind_library f t.name s l ≡ Ok (gathering t s l p n w)
 unfolding behind_library
-behind_again f t s l n w placed connected laid = rw (placed, connected, laid) refl
+behind_again f t s l p n w placed connected laid = rw (placed, connected, laid) refl
 
 sections_again : (f : Forest) (t : Title) (s : Structure) (l : Library) (g : Gathered) → design_of f ≡ Ok t → structure_of f ≡ Ok s → library_of f s.layers ≡ Ok l → behind_library f t.name s l ≡ Ok g → sections_of f ≡ Ok g
 unfolding sections_of
@@ -165,10 +129,10 @@ sections_again f t s l g titled structured stocked rest = rw (titled, structured
 pub states_again : (f : Forest) (p : Parts) → States f p → parts_of f ≡ Ok p
 unfolding parts_of
 states_again f p h =
-    let laid = wired_again f h.structure h.library h.network h.wired (wiring_again f h.structure.layers h.library h.network.nets h.wired h.laid) (known_again h.library.names h.structure h.network.classes h.known) in
-    let rest = behind_again f h.title h.structure h.library h.network h.wired (placement_again f h.title h.titled h.unplaced) (network_again f h.network h.connected) laid in
-    let all = sections_again f h.title h.structure h.library (gathering h.title h.structure h.library h.network h.wired) (title_again f h.title h.titled) (has_again f h.structure h.structured) (library_again f h.structure.layers h.library h.stocked) rest in
-    rw all (ap (λ (q : Parts). Ok q) (assembled_is (gathering h.title h.structure h.library h.network h.wired) ∙ sym h.is))
+    let laid = wired_again f h.structure h.library h.network h.wired (wiring_again f h.structure.layers h.library h.network.nets h.network.room h.wired h.laid) (known_again h.library.names h.structure h.network.classes h.known) in
+    let rest = behind_again f h.title h.structure h.library h.placement h.network h.wired (placement_again f h.structure h.library h.placement h.placed) (network_again f h.placement h.library h.network h.connected) laid in
+    let all = sections_again f h.title h.structure h.library (gathering h.title h.structure h.library h.placement h.network h.wired) (title_again f h.title h.titled) (has_again f h.structure h.structured) (library_again f h.structure.layers h.library h.stocked) rest in
+    rw all (ap (λ (q : Parts). Ok q) (assembled_is (gathering h.title h.structure h.library h.placement h.network h.wired) ∙ sym h.is))
 
 -- ---- the first fault
 
@@ -183,38 +147,38 @@ unknown_in r x e h = wired_in r (λ _. x) e h
 wired_why : (f : Forest) (s : Structure) (l : Library) (n : Network) (e : DesignFault) → length n.nets ≤ 100000 → wired_of f s l n ≡ Err e → FaultBehindNetwork f s l n e
 unfolding wired_of
 wired_why f s l n e few h =
-    elim (bind_err (wiring_of f s.layers l n.nets) (λ w. known_vias l.names s n.classes >>= λ _. Ok (record { nets = w.nets; numbers = classes_of n; wiring = w.it })) e h) [
-      | inl here ↦ inl (wiring_why f s.layers l n.nets e few here)
-      | inr later ↦ inr (later.0, wiring_found f s.layers l n.nets later.0 few later.1, unknown_found l.names s n.classes e (unknown_in (known_vias l.names s n.classes) (record { nets = later.0.nets; numbers = classes_of n; wiring = later.0.it }) e later.2))
+    elim (bind_err (wiring_of f s.layers l n.nets n.room) (λ w. known_vias l.names s n.classes >>= λ _. Ok (record { nets = w.nets; numbers = classes_of n; wiring = w.it })) e h) [
+      | inl here ↦ inl (wiring_why f s.layers l n.nets n.room e few here)
+      | inr later ↦ inr (later.0, wiring_found f s.layers l n.nets n.room later.0 few later.1, unknown_found l.names s n.classes e (unknown_in (known_vias l.names s n.classes) (record { nets = later.0.nets; numbers = classes_of n; wiring = later.0.it }) e later.2))
     ]
 
-network_behind : (f : Forest) (t : Title) (s : Structure) (l : Library) (e : DesignFault) → (network_of f >>= λ n. (wired_of f s l n >>= λ w. Ok (with_wired t.name s l n w))) ≡ Err e → FaultBehindPlacement f s l e
-network_behind f t s l e h =
-    elim (bind_err (network_of f) (λ n. (wired_of f s l n >>= λ w. Ok (with_wired t.name s l n w))) e h) [
-      | inl here ↦ inl (network_why f e here)
-      | inr later ↦ inr (later.0, network_found f later.0 later.1, wired_why f s l later.0 e (network_of_fit f later.0 later.1).few (wired_in (wired_of f s l later.0) (λ w. with_wired t.name s l later.0 w) e later.2))
+network_behind : (f : Forest) (t : Title) (s : Structure) (l : Library) (p : Placement) (e : DesignFault) → (network_of f p l >>= λ n. (wired_of f s l n >>= λ w. Ok (with_wired t.name s l p n w))) ≡ Err e → FaultBehindPlacement f s l p e
+network_behind f t s l p e h =
+    elim (bind_err (network_of f p l) (λ n. (wired_of f s l n >>= λ w. Ok (with_wired t.name s l p n w))) e h) [
+      | inl here ↦ inl (network_why f p l e here)
+      | inr later ↦ inr (later.0, network_found f p l later.0 later.1, wired_why f s l later.0 e (network_of_fit f p l later.0 later.1).few (wired_in (wired_of f s l later.0) (λ w. with_wired t.name s l p later.0 w) e later.2))
     ]
 
-behind_why : (f : Forest) (t : Title) (s : Structure) (l : Library) (e : DesignFault) → design_of f ≡ Ok t → behind_library f t.name s l ≡ Err e → FaultBehindLibrary f s l e
+behind_why : (f : Forest) (t : Title) (s : Structure) (l : Library) (e : DesignFault) → behind_library f t.name s l ≡ Err e → FaultBehindLibrary f s l e
 unfolding behind_library
-behind_why f t s l e titled h =
-    elim (bind_err (placement_of f) (λ _. network_of f >>= λ n. (wired_of f s l n >>= λ w. Ok (with_wired t.name s l n w))) e h) [
-      | inl here ↦ inl (placement_why f t e titled here)
-      | inr later ↦ inr (placement_none f later.0 later.1, network_behind f t s l e later.2)
+behind_why f t s l e h =
+    elim (bind_err (placement_of f s l) (λ p. network_of f p l >>= λ n. (wired_of f s l n >>= λ w. Ok (with_wired t.name s l p n w))) e h) [
+      | inl here ↦ inl (placement_why f s l e here)
+      | inr later ↦ inr (later.0, placement_found f s l later.0 later.1, network_behind f t s l later.0 e later.2)
     ]
 
-structure_behind : (f : Forest) (t : Title) (s : Structure) (e : DesignFault) → design_of f ≡ Ok t → (library_of f s.layers >>= λ l. behind_library f t.name s l) ≡ Err e → FaultBehindStructure f s e
-structure_behind f t s e titled h =
+structure_behind : (f : Forest) (t : Title) (s : Structure) (e : DesignFault) → (library_of f s.layers >>= λ l. behind_library f t.name s l) ≡ Err e → FaultBehindStructure f s e
+structure_behind f t s e h =
     elim (bind_err (library_of f s.layers) (λ l. behind_library f t.name s l) e h) [
       | inl here ↦ inl (library_why f s.layers e here)
-      | inr later ↦ inr (later.0, library_found f s.layers later.0 later.1, behind_why f t s later.0 e titled later.2)
+      | inr later ↦ inr (later.0, library_found f s.layers later.0 later.1, behind_why f t s later.0 e later.2)
     ]
 
-title_behind : (f : Forest) (t : Title) (e : DesignFault) → design_of f ≡ Ok t → (structure_of f >>= λ s. library_of f s.layers >>= λ l. behind_library f t.name s l) ≡ Err e → ListFault f e
-title_behind f t e titled h =
+title_behind : (f : Forest) (t : Title) (e : DesignFault) → (structure_of f >>= λ s. library_of f s.layers >>= λ l. behind_library f t.name s l) ≡ Err e → ListFault f e
+title_behind f t e h =
     elim (bind_err (structure_of f) (λ s. library_of f s.layers >>= λ l. behind_library f t.name s l) e h) [
       | inl here ↦ inl (why_found f e here)
-      | inr later ↦ inr (later.0, has_found f later.0 later.1, structure_behind f t later.0 e titled later.2)
+      | inr later ↦ inr (later.0, has_found f later.0 later.1, structure_behind f t later.0 e later.2)
     ]
 
 sections_why : (f : Forest) (e : DesignFault) → sections_of f ≡ Err e → ListFault f e
@@ -222,7 +186,7 @@ unfolding sections_of
 sections_why f e h =
     elim (bind_err (design_of f) (λ t. structure_of f >>= λ s. library_of f s.layers >>= λ l. behind_library f t.name s l) e h) [
       | inl here ↦ inl (inl (title_why f e here))
-      | inr later ↦ title_behind f later.0 e later.1 later.2
+      | inr later ↦ title_behind f later.0 e later.2
     ]
 
 pub list_fault_found : (f : Forest) (e : DesignFault) → parts_of f ≡ Err e → ListFault f e
@@ -237,19 +201,19 @@ list_fault_found f e h =
 
 wired_fault : (f : Forest) (s : Structure) (l : Library) (n : Network) (e : DesignFault) → FaultBehindNetwork f s l n e → wired_of f s l n ≡ Err e
 unfolding wired_of
-wired_fault f s l n e (inl here) = rw (why_wiring f s.layers l n.nets e here) refl
-wired_fault f s l n e (inr later) = rw (wiring_again f s.layers l n.nets later.0 later.1, unknown_again l.names s n.classes e later.2) refl
+wired_fault f s l n e (inl here) = rw (why_wiring f s.layers l n.nets n.room e here) refl
+wired_fault f s l n e (inr later) = rw (wiring_again f s.layers l n.nets n.room later.0 later.1, unknown_again l.names s n.classes e later.2) refl
 
-behind_fault : (f : Forest) (t : Title) (s : Structure) (l : Library) (e : DesignFault) → IsTitle f t → FaultBehindLibrary f s l e → behind_library f t.name s l ≡ Err e
+behind_fault : (f : Forest) (name : List ℕ) (s : Structure) (l : Library) (e : DesignFault) → FaultBehindLibrary f s l e → behind_library f name s l ≡ Err e
 unfolding behind_library
-behind_fault f t s l e titled (inl here) = rw (why_placement f t e titled here.0 here.1) refl
-behind_fault f t s l e titled (inr (none, inl here)) = rw (placement_again f t titled none, why_network f e here) refl
-behind_fault f t s l e titled (inr (none, inr later)) = rw (placement_again f t titled none, network_again f later.0 later.1, wired_fault f s l later.0 e later.2) refl
+behind_fault f name s l e (inl here) = rw (why_placement f s l e here) refl
+behind_fault f name s l e (inr (p, has, inl here)) = rw (placement_again f s l p has, why_network f p l e here) refl
+behind_fault f name s l e (inr (p, has, inr later)) = rw (placement_again f s l p has, network_again f p l later.0 later.1, wired_fault f s l later.0 e later.2) refl
 
 structure_fault : (f : Forest) (t : Title) (s : Structure) (e : DesignFault) → IsTitle f t → HasStructure f s → FaultBehindStructure f s e → sections_of f ≡ Err e
 unfolding sections_of
 structure_fault f t s e titled has (inl here) = rw (title_again f t titled, has_again f s has, why_library f s.layers e here) refl
-structure_fault f t s e titled has (inr later) = rw (title_again f t titled, has_again f s has, library_again f s.layers later.0 later.1) (behind_fault f t s later.0 e titled later.2)
+structure_fault f t s e titled has (inr later) = rw (title_again f t titled, has_again f s has, library_again f s.layers later.0 later.1) (behind_fault f t.name s later.0 e later.2)
 
 sections_fault : (f : Forest) (e : DesignFault) → ListFault f e → sections_of f ≡ Err e
 unfolding sections_of
@@ -260,3 +224,10 @@ sections_fault f e (inr later) = structure_fault f later.1.0 later.0 e later.1.1
 pub list_fault_again : (f : Forest) (e : DesignFault) → ListFault f e → parts_of f ≡ Err e
 unfolding parts_of
 list_fault_again f e h = rw (sections_fault f e h) refl
+
+-- ---- a reading that ends with the wiring
+
+pub behind_fails : (f : Forest) (name : List ℕ) (s : Structure) (l : Library) (p : Placement) (n : Network) (why : ReadWhy) → placement_of f s l ≡ Ok p → network_of f p l ≡ Ok n → Fails why (wired_of f s l n) → Fails why (behind_library f name s l)
+unfolding behind_library
+behind_fails f name s l p n Memory placed connected h = tt
+behind_fails f name s l p n (Fault e) placed connected h = rw (placed, connected, h) refl

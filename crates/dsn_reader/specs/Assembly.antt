@@ -2,6 +2,8 @@
 use Rattle.std.specs.Prelude.{ℕ, zero, suc, ◌-◌, nat_lt, List, [], ◌∷◌, ◌++◌, replicate, slice_get, length, Option, Some, None, Ok, if◌then◌else◌}
 use Rattle.std.specs.Global.{Vec}
 use Rattle.sexp_text.specs.Forest.{Forest}
+use Rattle.board_items.specs.declared.items.Item.{Item}
+use Rattle.board_items.specs.declared.items.Item.TheVariants as items
 use Rattle.board_rules.specs.declared.design.ClassRow.{ClassRow}
 use Rattle.board_rules.specs.declared.design.NetRow.{NetRow}
 use Rattle.board_rules.specs.declared.design.Parts.{Parts}
@@ -17,9 +19,14 @@ use Rattle.dsn_library.specs.declared.library.Library.{Library}
 use Rattle.dsn_library.specs.declared.classes.Class.{Class}
 use Rattle.dsn_library.specs.declared.network.Network.{Network}
 use Rattle.dsn_library.specs.Libraries.{library_of}
-use Rattle.dsn_library.specs.Placements.{placement_of}
+use Rattle.dsn_library.specs.Components.{placement_of}
+use Rattle.dsn_library.specs.declared.placement.Placed.{Placed}
+use Rattle.dsn_library.specs.declared.placement.Placed.TheVariants as placed
+use Rattle.dsn_library.specs.declared.placement.Placement.{Placement}
+use Rattle.dsn_library.specs.References.{net_at}
 use Rattle.dsn_library.specs.Networks.{network_of, classed}
 use Rattle.dsn_reader.specs.declared.reader.Stated.{Stated}
+use Rattle.dsn_reader.specs.declared.reader.Laid.{Laid}
 use Rattle.dsn_reader.specs.declared.wiring.Wiring.{Wiring}
 use Rattle.dsn_reader.specs.Wirings.{wiring_of}
 
@@ -103,6 +110,23 @@ net_rows (suc n) names cs = net_rows n names cs ++ row_at (slice_get names n) (s
 abbrev pub classes_of : Network → List ℕ
 classes_of n = classed n.nets 1 (replicate (length n.nets) 0) n.classes
 
+-- ---- items
+
+-- the pad with the net of its pin, or the keepout
+abbrev pub item_of : List ((ℕ × ℕ) × ℕ) → Placed → Item
+item_of pins (placed.Pad component pin ss) = items.Pad (net_at pins (component, pin)) ss
+item_of pins (placed.Keep k ss) = items.Keep k ss
+
+-- the pads and keepouts of components, behind others
+unfoldable pub with_placed : List ((ℕ × ℕ) × ℕ) → List Item → List Placed → List Item
+with_placed pins is [] = is
+with_placed pins is (x ∷ xs) = with_placed pins (is ++ item_of pins x ∷ []) xs
+
+-- items, behind others
+unfoldable pub with_items : List Item → List Item → List Item
+with_items is [] = is
+with_items is (x ∷ xs) = with_items (is ++ x ∷ []) xs
+
 -- ---- the design
 
 -- what the sections of a design state: its classes, the class of each net of the network, and all nets
@@ -110,7 +134,9 @@ pub record Gathered : Type 0 where
   pub name : List ℕ
   pub structure : Structure
   pub library : Library
+  pub placement : Placement
   pub classes : List Class
+  pub pins : List ((ℕ × ℕ) × ℕ)
   pub numbers : List ℕ
   pub nets : List (List ℕ)
   pub wiring : Wiring
@@ -120,22 +146,29 @@ gathered s = record {
   name = s.title.name;
   structure = s.structure;
   library = s.library;
+  placement = s.placement;
   classes = s.network.classes;
+  pins = s.network.pins;
   numbers = s.numbers.items;
   nets = s.network.nets;
   wiring = s.wiring;
 }
 
-abbrev pub assembled : Gathered → Parts
-assembled g = record {
-  name = g.name;
+-- the rows of a design that are made of what its sections state
+abbrev pub rows_of : Gathered → Laid
+rows_of g = record {
   layers = g.structure.layers;
-  stacks = g.library.stacks;
   nets = net_rows (length g.nets) g.nets g.numbers;
   classes = all_classes g.library.names g.structure g.classes;
-  outline = [];
-  items = g.wiring.items;
+  items = with_items (with_placed g.pins (with_items [] g.structure.keeps) g.placement.parts) g.wiring.items;
 }
+
+-- the design with these rows
+abbrev pub with_rows : Gathered → Laid → Parts
+with_rows g x = record { name = g.name; layers = x.layers; stacks = g.library.stacks; nets = x.nets; classes = x.classes; outline = g.structure.outline; items = x.items }
+
+abbrev pub assembled : Gathered → Parts
+assembled g = with_rows g (rows_of g)
 
 -- the nets, the class of each net of the network, and the wiring
 pub record Wired : Type 0 where
@@ -149,17 +182,17 @@ wired nets x = record { nets = nets; numbers = x.0.items; wiring = x.1 }
 -- what the wiring states, where each name in a list of vias is a padstack's
 unfoldable pub wired_of : Forest → Structure → Library → Network → Read Wired
 wired_of f s l n = do
-  w ← wiring_of f s.layers l n.nets
+  w ← wiring_of f s.layers l n.nets n.room
   _ ← known_vias l.names s n.classes
   Ok (record { nets = w.nets; numbers = classes_of n; wiring = w.it })
 
 -- what all sections state, by the structure and the library
 unfoldable pub behind_library : Forest → List ℕ → Structure → Library → Read Gathered
 behind_library f name s l = do
-  _ ← placement_of f
-  n ← network_of f
+  p ← placement_of f s l
+  n ← network_of f p l
   w ← wired_of f s l n
-  Ok (record { name = name; structure = s; library = l; classes = n.classes; numbers = w.numbers; nets = w.nets; wiring = w.wiring })
+  Ok (record { name = name; structure = s; library = l; placement = p; classes = n.classes; pins = n.pins; numbers = w.numbers; nets = w.nets; wiring = w.wiring })
 
 -- what the sections of a design state, or the first fault
 unfoldable pub sections_of : Forest → Read Gathered

@@ -21,8 +21,7 @@ pub record IsFitLoaded (nets layers : ℕ) (stacks : List Padstack) (i : Item) :
   pub there : NamesOneOf nets layers (length stacks) i
   pub copper : AllByRecursion IsWithinLimits (copper_of_item stacks i)
 
--- at most 100,000 nets and 200,000 wires and vias, all within the limits
+-- at most 100,000 nets; all wires and vias are within the limits
 pub record IsFitWiring (layers : ℕ) (stacks : List Padstack) (x : Netted Wiring) : Type 0 where
   pub nets : length x.nets ≤ 100000
-  pub count : length x.it.items ≤ 200000
   pub items : AllByRecursion (IsFitLoaded (length x.nets) layers stacks) x.it.items

@@ -14,7 +14,7 @@ use Rattle.dsn_lists.specs.Names.{is_among, place_of}
 use Rattle.dsn_lists.specs.Lists.{last_of}
 use Rattle.dsn_structure.specs.declared.structure.Structure.{Structure}
 use Rattle.dsn_library.specs.declared.classes.Class.{Class}
-use Rattle.dsn_reader.specs.Assembly.{Gathered}
+use Rattle.dsn_reader.specs.Assembly.{Gathered, item_of}
 
 -- ---- names of padstacks
 
@@ -72,7 +72,8 @@ rows_of_nets (name ∷ names) (class ∷ classes) = record { name = name; class 
 
 -- ---- the design
 
--- the design of what its sections state
+-- The design of what its sections state. Its items are the structure's keepouts, then the pads and keepouts of the
+-- components, each pad with the net of its pin, then the wiring.
 abbrev pub laid_out : Gathered → Parts
 laid_out g = record {
   name = g.name;
@@ -80,6 +81,6 @@ laid_out g = record {
   stacks = g.library.stacks;
   nets = rows_of_nets g.nets g.numbers;
   classes = rows_of_classes g.library.names g.structure g.classes;
-  outline = [];
-  items = g.wiring.items;
+  outline = g.structure.outline;
+  items = g.structure.keeps ++ (map (item_of g.pins) g.placement.parts ++ g.wiring.items);
 }

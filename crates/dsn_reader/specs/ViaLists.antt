@@ -1,7 +1,7 @@
 -- What a list of vias is, and what is wrong with a list that is none.
 -- Models: the via descriptor in the wiring of the SPECCTRA reference.
-use Rattle.std.specs.Prelude.{◌≡◌, ◌<◌, ◌+◌, ℕ, ℤ, Bool, ◌⊎◌, true, List, [], ◌∷◌, map, length, slice_get, Option, Some, None, is_some}
-use Rattle.std.specs.List.{AllByRecursion, sum_by}
+use Rattle.std.specs.Prelude.{◌≡◌, ℕ, ℤ, Bool, ◌⊎◌, true, List, [], ◌∷◌, map, slice_get, Option, Some, None, is_some}
+use Rattle.std.specs.List.{AllByRecursion}
 use Rattle.sexp_text.specs.Forest.{Forest}
 use Rattle.sexp_text.specs.declared.units.Unit.{Unit as LengthUnit}
 use Rattle.seg_geometry.specs.declared.points.Pt.{Pt}
@@ -16,23 +16,20 @@ use Rattle.dsn_lists.specs.declared.faults.DesignKind.TheVariants as kind
 use Rattle.dsn_lists.specs.Names.{place_of}
 use Rattle.dsn_lists.specs.Lists.{told}
 use Rattle.dsn_lists.specs.ShortLists.{HasWord, NoWordOr, first_words, behind_words}
+use Rattle.dsn_shapes.specs.declared.rooms.Room.{Room}
+use Rattle.dsn_shapes.specs.RoomLists.{points_of_shapes, IsTaken, NoRoom}
 use Rattle.dsn_library.specs.declared.library.Library.{Library}
 use Rattle.dsn_reader.specs.declared.ends.Ends.{Ends}
 use Rattle.dsn_reader.specs.declared.wiring.Wiring.{Wiring}
 use Rattle.dsn_reader.specs.Wirings.{Netted, is_fixed}
 use Rattle.dsn_reader.specs.TrackLists.{StateLengths, LengthsFault, StatePoints, NoPoints}
 use Rattle.dsn_reader.specs.EndLists.{AreEnds, HasEnds, EndsFault}
-use Rattle.dsn_reader.specs.WireLists.{NoRoom}
 
 -- ---- vias
 
 -- all points of the shapes, moved by this one, are in range
 abbrev pub IsNear : List Shape → Pt → Type 0
 IsNear shapes p = AllByRecursion (λ (s : Shape). AllByRecursion IsInRange (map (moved p) (core_points s.core))) shapes
-
--- how many points the shapes have
-abbrev pub points_of_shapes : List Shape → ℕ
-points_of_shapes shapes = sum_by (λ (s : Shape). length (core_points s.core)) shapes
 
 -- a via at each point, of the padstack of this number, whose shapes are in range there
 pub record AreViasOf (u : LengthUnit) (nets : List (List ℕ)) (shapes : List Shape) (stack : ℕ) (f : Forest) (is : List Item) : Type 0 where
@@ -48,20 +45,20 @@ pub record AreViasOf (u : LengthUnit) (nets : List (List ℕ)) (shapes : List Sh
 abbrev pub AreVias : LengthUnit → Library → List (List ℕ) → Forest → List Item → Type 0
 AreVias u l nets f is = HasWord (λ text rest. (stack : ℕ) × (place_of l.names text ≡ Some stack) × AreViasOf u nets (shapes_of (slice_get l.stacks stack)) stack rest is) f
 
--- the fault of the first via that is out of range or has no room, behind so many items where so many points may still come
-abbrev pub PointFault : List Shape → ℕ → ℕ → ℕ → List Pt → DesignFault → Type 0
-PointFault shapes at count left [] e = ⊥
-PointFault shapes at count left (p ∷ ps) e =
+-- the fault of the first via that is out of range or for which there is no room
+abbrev pub PointFault : List Shape → ℕ → Room → List Pt → DesignFault → Type 0
+PointFault shapes at room [] e = ⊥
+PointFault shapes at room (p ∷ ps) e =
     ((IsNear shapes p → ⊥) × (e ≡ told kind.Range at))
-    ⊎ ((IsNear shapes p × NoRoom count left (points_of_shapes shapes) × (e ≡ told kind.Large at))
-    ⊎ (IsNear shapes p × (more : ℕ) × (left ≡ points_of_shapes shapes + more) × (count < 200000) × PointFault shapes at (1 + count) more ps e))
+    ⊎ ((IsNear shapes p × NoRoom room (points_of_shapes shapes) × (e ≡ told kind.Large at))
+    ⊎ (IsNear shapes p × (left : Room) × IsTaken room (points_of_shapes shapes) left × PointFault shapes at left ps e))
 
 -- what is wrong behind the words of a via whose lists state this: its points, its net, or one of the vias
 abbrev pub WholeViaFault : LengthUnit → List Shape → Wiring → ℕ → Forest → Ends → DesignFault → Type 0
 WholeViaFault u shapes w at f x e =
     (NoPoints u 1 (first_words f) × (e ≡ told kind.Points at))
     ⊎ ((ps : List Pt) × StatePoints u 1 (first_words f) ps
-    × (((x.net ≡ None) × (e ≡ told kind.Missing at)) ⊎ ((is_some x.net ≡ true) × PointFault shapes at (length w.items) w.left ps e)))
+    × (((x.net ≡ None) × (e ≡ told kind.Missing at)) ⊎ ((is_some x.net ≡ true) × PointFault shapes at w.room ps e)))
 
 -- the fault behind the padstack of a via
 abbrev pub PlacedFault : LengthUnit → List Shape → Netted Wiring → ℕ → Forest → DesignFault → Type 0

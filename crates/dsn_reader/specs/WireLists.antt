@@ -1,6 +1,6 @@
 -- What a wire is, and what is wrong with a list that is none.
 -- Models: the wire descriptor in the wiring of the SPECCTRA reference, with paths alone.
-use Rattle.std.specs.Prelude.{◌≡◌, ◌≤◌, ◌<◌, ℕ, Bool, ◌⊎◌, true, List, [], ◌∷◌, length, Option, Some, None, is_some}
+use Rattle.std.specs.Prelude.{◌≡◌, ◌≤◌, ℕ, Bool, ◌⊎◌, true, List, [], ◌∷◌, length, Option, Some, None, is_some}
 use Rattle.sexp_text.specs.Forest.{Forest}
 use Rattle.sexp_text.specs.declared.units.Unit.{Unit as LengthUnit}
 use Rattle.area_geometry.specs.declared.shapes.Shape.{Shape}
@@ -10,6 +10,7 @@ use Rattle.dsn_lists.specs.declared.faults.DesignFault.{DesignFault}
 use Rattle.dsn_lists.specs.declared.faults.DesignKind.TheVariants as kind
 use Rattle.dsn_lists.specs.Words.{Heading, head_of}
 use Rattle.dsn_lists.specs.Lists.{collect, Every, told, IsFirst}
+use Rattle.dsn_shapes.specs.RoomLists.{NoRoom}
 use Rattle.dsn_reader.specs.declared.wires.Track.{Track}
 use Rattle.dsn_reader.specs.declared.wires.Draft.{Draft}
 use Rattle.dsn_reader.specs.declared.wires.WireWord.{WireWord}
@@ -78,14 +79,10 @@ WireListFault u layers nets before at inside e = (x : Netted Draft) × HasDraft 
 abbrev pub IsLacking : Draft → Type 0
 IsLacking d = (d.track ≡ None) ⊎ (d.ends.net ≡ None)
 
--- one more item of so many points is too many: of 200,000 items, or of the points that may still come
-abbrev pub NoRoom : ℕ → ℕ → ℕ → Type 0
-NoRoom count left points = (200000 ≤ count) ⊎ (left < points)
-
 -- there is no room for a wire of this path
 abbrev pub NoRoomFor : Wiring → Option Track → Type 0
 NoRoomFor w None = ⊥
-NoRoomFor w (Some t) = NoRoom (length w.items) w.left (length t.points)
+NoRoomFor w (Some t) = NoRoom w.room (length t.points)
 
 -- what is wrong with the lists of a wire, all of which can stand: what is missing, or that there is no room; told at its byte
 abbrev pub WholeWireFault : Wiring → ℕ → Draft → DesignFault → Type 0

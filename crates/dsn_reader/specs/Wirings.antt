@@ -1,7 +1,7 @@
 -- What the lists of the wiring section state.
 -- Models: the wiring, wire and via descriptors of the SPECCTRA reference, with paths alone. Left out: wiring without a
 -- net, and shapes that aren't paths, which are refused.
-use Rattle.std.specs.Prelude.{ℕ, ◌-◌, nat_lt, nat_le, ◌||◌, ◌&&◌, ℤ, ◌+ℤ◌, unsigned_abs, Bool, true, false, is_some, List, [], ◌∷◌, ◌++◌, slice_get, codes, length, Option, Some, None, Ok, if◌then◌else◌}
+use Rattle.std.specs.Prelude.{ℕ, nat_lt, nat_le, ◌||◌, ◌&&◌, ℤ, ◌+ℤ◌, unsigned_abs, Bool, true, false, is_some, List, [], ◌∷◌, ◌++◌, slice_get, codes, length, Option, Some, None, Ok, if◌then◌else◌}
 use Rattle.std.specs.List.{list_all}
 use Rattle.sexp_text.specs.Forest.{Forest, End, Word, Branch}
 use Rattle.sexp_text.specs.declared.units.Unit.{Unit as LengthUnit}
@@ -23,6 +23,8 @@ use Rattle.dsn_lists.specs.Places.{no_coordinates, coordinates}
 use Rattle.dsn_lists.specs.Layers.{one_layer}
 use Rattle.dsn_lists.specs.Shapes.{path_of}
 use Rattle.dsn_lists.specs.Pcbs.{Spot, design_of, section_in}
+use Rattle.dsn_shapes.specs.declared.rooms.Room.{Room}
+use Rattle.dsn_shapes.specs.Rooms.{room_for, room_behind}
 use Rattle.dsn_library.specs.declared.library.Library.{Library}
 use Rattle.dsn_reader.specs.declared.ends.Ends.{Ends}
 use Rattle.dsn_reader.specs.declared.ends.EndWord.{EndWord}
@@ -107,14 +109,10 @@ is_fixed (Some fix) = fix
 
 -- ---- room
 
--- how many points may still come behind so many; none where there are too many
-abbrev pub less : ℕ → ℕ → Option ℕ
-less left count = if nat_lt left count then None else Some (left - count)
-
--- one more item and so many points behind those that are there
-abbrev pub with_item : ℕ → Wiring → Item → Option ℕ → Read Wiring
+-- one more item behind those that are there, and this room behind it
+abbrev pub with_item : ℕ → Wiring → Item → Option Room → Read Wiring
 with_item at w item None = wrong kind.Large at
-with_item at w item (Some left) = if nat_lt 199999 (length w.items) then wrong kind.Large at else Ok (record { items = w.items ++ item ∷ []; left = left })
+with_item at w item (Some room) = Ok (record { items = w.items ++ item ∷ []; room = room })
 
 -- ---- wires
 
@@ -162,7 +160,7 @@ no_draft = record { ends = no_ends; track = None }
 
 -- a wire has a path and a net
 abbrev pub wire_with : ℕ → Wiring → Option Track → Option ℕ → Option Bool → Read Wiring
-wire_with at w (Some t) (Some net) fix = with_item at w (items.Wire net t.layer t.width t.points (is_fixed fix)) (less w.left (length t.points))
+wire_with at w (Some t) (Some net) fix = with_item at w (items.Wire net t.layer t.width t.points (is_fixed fix)) (room_for w.room (length t.points))
 wire_with at w (Some t) None fix = wrong kind.Missing at
 wire_with at w None net fix = wrong kind.Missing at
 
@@ -196,15 +194,6 @@ is_shape_near p s = list_all (is_point_near p) (core_points s.core)
 unfoldable pub are_near : Pt → List Shape → Bool
 are_near p ss = list_all (is_shape_near p) ss
 
-abbrev pub less_of : Option ℕ → ℕ → Option ℕ
-less_of None count = None
-less_of (Some left) count = less left count
-
--- how many points may still come behind those of the shapes
-unfoldable pub less_all : Option ℕ → List Shape → Option ℕ
-less_all left [] = left
-less_all left (s ∷ ss) = less_all (less_of left (length (core_points s.core))) ss
-
 -- what all vias of one list have in common
 pub record Kindred : Type 0 where
   pub net : ℕ
@@ -217,7 +206,7 @@ sorted s = record { net = s.net; stack = s.stack; shapes = s.shapes.now; fix = s
 
 -- one more via at a point
 unfoldable pub via_at : ℕ → Kindred → Wiring → Pt → Read Wiring
-via_at at v w p = if are_near p v.shapes then with_item at w (items.Via v.net v.stack p v.fix) (less_all (Some w.left) v.shapes) else wrong kind.Range at
+via_at at v w p = if are_near p v.shapes then with_item at w (items.Via v.net v.stack p v.fix) (room_behind w.room v.shapes) else wrong kind.Range at
 
 -- a via at each point
 unfoldable pub vias_at : ℕ → Kindred → Wiring → List Pt → Read Wiring
@@ -269,13 +258,14 @@ wiring_list u layers l x at h words.Other = Ok x
 unfoldable pub wiring_item : LengthUnit → List (List ℕ) → Library → Netted Wiring → ℕ → Forest → Read (Netted Wiring)
 wiring_item u layers l x at inside = wiring_list u layers l x at (head_of inside) (wiring_word (head_of inside).text)
 
-abbrev pub no_wiring : Wiring
-no_wiring = record { items = []; left = 4000000 }
+-- no item, and this room
+abbrev pub no_wiring : Room → Wiring
+no_wiring room = record { items = []; room = room }
 
--- the section at its place, where this unit governs the design, behind nets of these names
-unfoldable pub wiring_at : LengthUnit → List (List ℕ) → Library → List (List ℕ) → Spot → Read (Netted Wiring)
-wiring_at u layers l nets p = each (wiring_item (governing u p.args) layers l) (netted nets no_wiring) p.args
+-- the section at its place, where this unit governs the design, behind nets of these names and with this room
+unfoldable pub wiring_at : LengthUnit → List (List ℕ) → Library → List (List ℕ) → Room → Spot → Read (Netted Wiring)
+wiring_at u layers l nets room p = each (wiring_item (governing u p.args) layers l) (netted nets (no_wiring room)) p.args
 
 -- the wiring of a design, and its nets
-unfoldable pub wiring_of : Forest → List (List ℕ) → Library → List (List ℕ) → Read (Netted Wiring)
-wiring_of f layers l nets = design_of f >>= λ t. wiring_at t.unit layers l nets (section_in sections.Wiring f)
+unfoldable pub wiring_of : Forest → List (List ℕ) → Library → List (List ℕ) → Room → Read (Netted Wiring)
+wiring_of f layers l nets room = design_of f >>= λ t. wiring_at t.unit layers l nets room (section_in sections.Wiring f)

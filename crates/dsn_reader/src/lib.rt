@@ -3,6 +3,7 @@
 
 mod assembly;
 mod ends;
+mod loaded;
 mod reader;
 mod vias;
 mod wires;

@@ -8,19 +8,20 @@ ghost use Rattle.dsn_lists.specs.declared.faults.DesignFault.{DesignFault};
 ghost use Rattle.dsn_lists.specs.Results.{Gives};
 ghost use Rattle.dsn_structure.specs.Limits.{IsFitStructure};
 ghost use Rattle.dsn_library.specs.Limits.{IsFitLibrary, IsFitNetwork};
-ghost use Rattle.dsn_reader.specs.Assembly.{assembled, gathered, wired, wired_of, behind_library, sections_of, parts_of};
+ghost use Rattle.dsn_reader.specs.Assembly.{rows_of, with_rows, assembled, gathered, wired, wired_of, behind_library, sections_of, parts_of};
 ghost use Rattle.dsn_reader.specs.Rows.{laid_out};
 ghost use Rattle.dsn_reader.specs.Design.{most_bytes, IsDesign, IsFirstFault, WhyNoDesign, IsReadAs, IsRefusedBy, IsTextWhy};
 
 use crate::assembly::{check_vias, class_rows_of, names_of, net_rows_of, numbers_of_classes};
+use crate::loaded::loaded_items;
 use crate::wiring::{Wiring, read_wiring};
-use board_rules::{Design, Parts};
-use dsn_library::{Library, Network, read_library, read_network, read_placement};
+use board_items::Items;
+use board_rules::{ClassRows, Design, Names, NetRows, Parts};
+use dsn_library::{Library, Network, Placement, read_library, read_network, read_placement};
 use dsn_lists::{DesignKind, ReadWhy, Title, fault, title_of};
 use dsn_structure::{Structure, read_structure};
-use row_lists::Row;
 use sexp_text::{TextFault, Tree, read_tree};
-use std::alloc::Global;
+use std::alloc::{AllocError, Global};
 
 /// The most bytes that a text has.
 const BYTES: usize = 67_108_864;
@@ -31,6 +32,7 @@ struct Stated {
     title: Title,
     structure: Structure,
     library: Library,
+    placement: Placement,
     network: Network,
     /// The class of each net that the network has by itself.
     numbers: Vec<u32>,
@@ -50,34 +52,65 @@ fn text_why(why: TextFault) -> ReadWhy
     }
 }
 
-// The design of what its sections state. Its one error is want of memory.
-fn assemble(alloc: Global, stated: Stated) -> Result<Parts, ReadWhy>
-    requires { length stated.library.names ≤ 65535 }
-    ensures parts { IfOk result (λ parts. parts ≡ assembled (gathered stated)) }
-    // Its classes and nets are those that were stated, in order.
-    ensures rows { IfOk result (λ parts. parts ≡ laid_out (gathered stated)) }
-    ensures memory { IfErr result (λ why. why ≡ ReadWhy.Memory) }
+// The rows of a design that are made of what its sections state.
+#[derive(Drop)]
+struct Laid {
+    layers: Names,
+    nets: NetRows,
+    classes: ClassRows,
+    items: Items,
+}
+
+// The rows of a design. Its one error is want of memory.
+fn rows_of(alloc: Global, stated: &Stated) -> Result<Laid, AllocError>
+    requires { length stated.now.library.names ≤ 65535 }
+    ensures { IfOk result (λ laid. laid ≡ rows_of (gathered stated.now)) }
+{
+    let structure = &stated.structure;
+    let network = &stated.network;
+    let keeps = structure.keeps.as_slice();
+    let parts = stated.placement.parts.as_slice();
+    let wiring = stated.wiring.items.as_slice();
+    Ok(Laid {
+        layers: names_of(alloc, &structure.layers)?,
+        nets: net_rows_of(alloc, &network.nets, &stated.numbers)?,
+        classes: class_rows_of(alloc, &stated.library.names, structure, network)?,
+        items: loaded_items(alloc, keeps, &network.pins, parts, wiring)?,
+    })
+}
+
+fn with_rows(stated: Stated, laid: Laid) -> Parts
+    ensures { result ≡ with_rows (gathered stated) laid }
 {
     let Stated {
         title,
         structure,
         library,
-        network,
-        numbers,
-        wiring,
+        ..
     } = stated;
-    let nets = net_rows_of(alloc, &network.nets, &numbers)?;
-    let classes = class_rows_of(alloc, &library.names, &structure, &network)?;
-    let layers = names_of(alloc, &structure.layers)?;
-    Ok(Parts {
+    Parts {
         name: title.name,
-        layers,
+        layers: laid.layers,
         stacks: library.stacks,
-        nets,
-        classes,
-        outline: Row::new(alloc),
-        items: wiring.items,
-    })
+        nets: laid.nets,
+        classes: laid.classes,
+        outline: structure.outline,
+        items: laid.items,
+    }
+}
+
+// The design of what its sections state. Its one error is want of memory.
+fn assemble(alloc: Global, stated: Stated) -> Result<Parts, ReadWhy>
+    requires { length stated.library.names ≤ 65535 }
+    ensures parts { IfOk result (λ parts. parts ≡ assembled (gathered stated)) }
+    // Its classes, nets and items are those that were stated, in order.
+    ensures rows { IfOk result (λ parts. parts ≡ laid_out (gathered stated)) }
+    ensures memory { IfErr result (λ why. why ≡ ReadWhy.Memory) }
+{
+    match rows_of(alloc, &stated) {
+        Ok(laid) => Ok(with_rows(stated, laid)),
+        Err(_) => Err(ReadWhy::Memory),
+    }
 }
 
 // The wiring and the class of each net, where each name in a list of vias is a padstack's.
@@ -95,6 +128,7 @@ fn wired_of(
     requires few { length network.old.classes < 2 ^ 32 }
     ensures wired { Gives (wired network.new.nets) result (wired_of (tree_forest tree.now) structure.now library.now network.old) }
     ensures classes { network.new.classes ≡ network.old.classes }
+    ensures pins { network.new.pins ≡ network.old.pins }
 {
     let numbers = numbers_of_classes(alloc, network)?;
     let wiring = read_wiring(alloc, tree, structure, library, network)?;
@@ -119,15 +153,18 @@ fn behind_library(
 {
     let placement = read_placement(alloc, tree, &structure, &library)?;
     let mut network = read_network(alloc, tree, &placement, &library)?;
-    let (numbers, wiring) = wired_of(alloc, tree, &structure, &library, &mut network)?;
-    Ok(Stated {
-        title,
-        structure,
-        library,
-        network,
-        numbers,
-        wiring,
-    })
+    match wired_of(alloc, tree, &structure, &library, &mut network) {
+        Ok((numbers, wiring)) => Ok(Stated {
+            title,
+            structure,
+            library,
+            placement,
+            network,
+            numbers,
+            wiring,
+        }),
+        Err(why) => Err(why),
+    }
 }
 
 // All that the sections state.

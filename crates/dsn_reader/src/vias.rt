@@ -7,16 +7,17 @@ ghost use Rattle.board_items.specs.Shapes.{shapes_of};
 ghost use Rattle.dsn_lists.specs.Results.{Tells, Gives, each};
 ghost use Rattle.dsn_lists.specs.Names.{place_of};
 ghost use Rattle.dsn_lists.specs.Words.{marked};
-ghost use Rattle.dsn_reader.specs.Wirings.{netted, known_stack, is_near, is_point_near, is_shape_near, are_near, less_of, less_all, sorted, via_at, vias_at, as_points, some_net, via_of};
+ghost use Rattle.dsn_reader.specs.Wirings.{netted, known_stack, is_near, is_point_near, is_shape_near, are_near, sorted, via_at, vias_at, as_points, some_net, via_of};
 
 use crate::ends::{Ends, read_ends};
-use crate::wiring::{Wiring, put_item, room_behind};
+use crate::wiring::{Wiring, put_item};
 use area_geometry::{Core, Shape};
 use board_items::{Item, Padstack};
 use dsn_library::Library;
 use dsn_lists::{
     Coordinates, DesignFault, DesignKind, Found, NameSet, ReadWhy, coordinates_at, fault, word_at,
 };
+use dsn_shapes::room_behind;
 use seg_geometry::{Points, Pt};
 use sexp_text::{Cursor, Unit};
 use std::alloc::Global;
@@ -80,25 +81,6 @@ fn are_near(p: Pt, shapes: &[Shape]) -> bool
     shapes.iter().all(|shape| is_shape_near(p, shape))
 }
 
-// How many points may still come behind those of one more shape.
-fn room_behind_one(left: Option<u32>, shape: &Shape) -> Option<u32>
-    ensures { result ≡ less_of left (length (core_points shape.now.core)) }
-{
-    room_behind(left?, points_of(&shape.core).len())
-}
-
-// How many points may still come behind those of the shapes; none where there are too many.
-#[tactic(auto, unfolding(crate::specs::Wirings::less_all))]
-fn room_behind_all(left: u32, shapes: &[Shape]) -> Option<u32>
-    ensures { result ≡ less_all (Some left) shapes.now }
-{
-    let mut left = Some(left);
-    for shape in shapes {
-        left = room_behind_one(left, shape);
-    }
-    left
-}
-
 #[tactic(auto, unfolding(crate::specs::Wirings::via_at))]
 fn put_via(wiring: &mut Wiring, at: u32, sort: Sort<'_>, p: Pt) -> Result<(), ReadWhy>
     ensures { Gives (λ _. wiring.new) result (via_at at (sorted sort.entry) wiring.old p) }
@@ -106,14 +88,14 @@ fn put_via(wiring: &mut Wiring, at: u32, sort: Sort<'_>, p: Pt) -> Result<(), Re
     if !are_near(p, sort.shapes) {
         return Err(ReadWhy::from(fault(DesignKind::Range, at)));
     }
-    let left = room_behind_all(wiring.left, sort.shapes);
+    let room = room_behind(wiring.room, sort.shapes);
     let item = Item::Via {
         net: sort.net,
         padstack: sort.stack,
         at: p,
         fix: sort.fix,
     };
-    put_item(wiring, at, item, left)
+    put_item(wiring, at, item, room)
 }
 
 // Puts a via at each point behind the wiring that is there.

@@ -5,11 +5,12 @@ ghost use Rattle.dsn_lists.specs.Results.{Gives, each};
 ghost use Rattle.dsn_reader.specs.Wirings.{netted, track_of, path_once, wire_word, ended_draft, wire_item, no_draft, as_wire, wire_of};
 
 use crate::ends::{Ends, read_end};
-use crate::wiring::{Wiring, put_item, room_behind};
+use crate::wiring::{Wiring, put_item};
 use board_items::Item;
 use dsn_lists::{
     DesignKind, NameSet, ReadWhy, fault, is_word, layer_at, opening, path_at, word_at,
 };
+use dsn_shapes::room_for;
 use seg_geometry::Points;
 use sexp_text::{Cursor, Part, Unit, front};
 use std::alloc::Global;
@@ -198,7 +199,7 @@ fn put_wire(wiring: &mut Wiring, at: u32, draft: Draft) -> Result<(), ReadWhy>
     let Some(net) = ends.net else {
         return Err(ReadWhy::from(fault(DesignKind::Missing, at)));
     };
-    let left = room_behind(wiring.left, track.points.len());
+    let room = room_for(wiring.room, track.points.len());
     let item = Item::Wire {
         net,
         layer: track.layer,
@@ -206,7 +207,7 @@ fn put_wire(wiring: &mut Wiring, at: u32, draft: Draft) -> Result<(), ReadWhy>
         points: track.points,
         fix: ends.is_fixed(),
     };
-    put_item(wiring, at, item, left)
+    put_item(wiring, at, item, room)
 }
 
 /// Reads a wire, whose list begins at this byte, behind the wiring that is there.

@@ -5,7 +5,7 @@ ghost use Rattle.sexp_text.specs.Trees.{tree_forest};
 ghost use Rattle.dsn_lists.specs.Results.{Gives, each};
 ghost use Rattle.dsn_lists.specs.Pcbs.{spotted};
 ghost use Rattle.dsn_lists.specs.declared.faults.DesignFault.{DesignFault};
-ghost use Rattle.dsn_reader.specs.Wirings.{Netted, netted, less, with_item, wiring_word, wiring_item, wiring_at, wiring_of};
+ghost use Rattle.dsn_reader.specs.Wirings.{Netted, netted, with_item, wiring_word, wiring_item, wiring_at, wiring_of};
 ghost use Rattle.dsn_reader.specs.Meaning.{HasWiring, WiringFault, WhyNot};
 
 use crate::vias::read_via;
@@ -16,24 +16,19 @@ use dsn_lists::{
     DesignKind, NameSet, Place, ReadWhy, Section, fault, is_word, opening, section_of, title_of,
     unit_at, unit_for,
 };
+use dsn_shapes::Room;
 use dsn_structure::Structure;
 use row_lists::Row;
 use sexp_text::{Cursor, Part, Tree, Unit, front};
 use std::alloc::Global;
 
-/// How many items a design may have.
-const ITEMS: usize = 200_000;
-
-/// How many points the shapes of all its items may have.
-const POINTS: u32 = 4_000_000;
-
 /// The wiring of a design.
 #[derive(Debug, Drop)]
 pub struct Wiring {
-    /// The wires and vias, at most 200,000, in the order of the text.
+    /// The wires and vias in the order of the text.
     pub items: Items,
-    /// How many points their shapes may still have.
-    pub left: u32,
+    /// How many items and points may come behind them.
+    pub room: Room,
 }
 
 // What a list of the section is.
@@ -46,28 +41,15 @@ enum WiringWord {
     Other,
 }
 
-/// How many points may still come behind so many; none where there are too many.
-pub fn room_behind(left: u32, count: usize) -> Option<u32>
-    ensures { result ≡ less left count }
+/// Puts an item behind the others, where there is room for it. Else the fault `Large` at the byte.
+pub fn put_item(wiring: &mut Wiring, at: u32, item: Item, room: Option<Room>) -> Result<(), ReadWhy>
+    ensures { Gives (λ _. wiring.new) result (with_item at wiring.old item room) }
 {
-    if (left as usize) < count {
-        return None;
-    }
-    Some(left - count as u32)
-}
-
-/// Puts an item behind the others, where there is room for it and its points. Else the fault `Large` at the byte.
-pub fn put_item(wiring: &mut Wiring, at: u32, item: Item, left: Option<u32>) -> Result<(), ReadWhy>
-    ensures { Gives (λ _. wiring.new) result (with_item at wiring.old item left) }
-{
-    let Some(left) = left else {
+    let Some(room) = room else {
         return Err(ReadWhy::from(fault(DesignKind::Large, at)));
     };
-    if wiring.items.len() >= ITEMS {
-        return Err(ReadWhy::from(fault(DesignKind::Large, at)));
-    }
     wiring.items.push(item)?;
-    wiring.left = left;
+    wiring.room = room;
     Ok(())
 }
 
@@ -160,18 +142,19 @@ fn wiring_at(
     layers: &NameSet,
     library: &Library,
     nets: &mut NameSet,
+    room: Room,
     place: Place<'_>,
 ) -> Result<Wiring, ReadWhy>
     requires layers { length layers.now ≤ 32 }
     requires stacks { length library.now.names ≤ 65535 }
     requires nets { length nets.old ≤ 100000 }
-    ensures wiring { Gives (λ w. netted nets.new w) result (wiring_at unit layers.now library.now nets.old (spotted place.entry)) }
+    ensures wiring { Gives (λ w. netted nets.new w) result (wiring_at unit layers.now library.now nets.old room (spotted place.entry)) }
     ensures few { length nets.new ≤ 100000 }
 {
     let unit = unit_for(unit, place.args);
     let mut wiring = Wiring {
         items: Row::new(alloc),
-        left: POINTS,
+        room,
     };
     read_lists(alloc, unit, layers, library, nets, &mut wiring, place.args)?;
     Ok(wiring)
@@ -190,14 +173,15 @@ pub fn read_wiring(
     requires layers { length structure.now.layers ≤ 32 }
     requires stacks { length library.now.names ≤ 65535 }
     requires nets { length network.old.nets ≤ 100000 }
-    ensures read { Gives (λ w. netted network.new.nets w) result (wiring_of (tree_forest tree.now) structure.now.layers library.now network.old.nets) }
+    ensures read { Gives (λ w. netted network.new.nets w) result (wiring_of (tree_forest tree.now) structure.now.layers library.now network.old.nets network.old.room) }
     // What is read is the wiring of the design, with its nets, and a design that has one is read.
-    ensures found { IfOk result (λ w. HasWiring (tree_forest tree.now) structure.now.layers library.now network.old.nets (netted network.new.nets w)) }
-    ensures only { (x : Netted Wiring) → HasWiring (tree_forest tree.now) structure.now.layers library.now network.old.nets x → Gives (λ w. netted network.new.nets w) result (Ok x) }
+    ensures found { IfOk result (λ w. HasWiring (tree_forest tree.now) structure.now.layers library.now network.old.nets network.old.room (netted network.new.nets w)) }
+    ensures only { (x : Netted Wiring) → HasWiring (tree_forest tree.now) structure.now.layers library.now network.old.nets network.old.room x → Gives (λ w. netted network.new.nets w) result (Ok x) }
     // What is told is the first fault, and the first fault is told.
-    ensures fault { IfErr result (WhyNot (tree_forest tree.now) structure.now.layers library.now network.old.nets) }
-    ensures first { (e : DesignFault) → WiringFault (tree_forest tree.now) structure.now.layers library.now network.old.nets e → Gives (λ w. netted network.new.nets w) result (Err e) }
+    ensures fault { IfErr result (WhyNot (tree_forest tree.now) structure.now.layers library.now network.old.nets network.old.room) }
+    ensures first { (e : DesignFault) → WiringFault (tree_forest tree.now) structure.now.layers library.now network.old.nets network.old.room e → Gives (λ w. netted network.new.nets w) result (Err e) }
     ensures classes { network.new.classes ≡ network.old.classes }
+    ensures pins { network.new.pins ≡ network.old.pins }
 {
     section(alloc, tree, structure, library, network)
 }
@@ -213,17 +197,20 @@ fn section(
     requires layers { length structure.now.layers ≤ 32 }
     requires stacks { length library.now.names ≤ 65535 }
     requires nets { length network.old.nets ≤ 100000 }
-    ensures read { Gives (λ w. netted network.new.nets w) result (wiring_of (tree_forest tree.now) structure.now.layers library.now network.old.nets) }
+    ensures read { Gives (λ w. netted network.new.nets w) result (wiring_of (tree_forest tree.now) structure.now.layers library.now network.old.nets network.old.room) }
     ensures classes { network.new.classes ≡ network.old.classes }
+    ensures pins { network.new.pins ≡ network.old.pins }
 {
     let title = title_of(alloc, tree)?;
     let place = section_of(tree, Section::Wiring);
+    let room = network.room;
     wiring_at(
         alloc,
         title.unit,
         &structure.layers,
         library,
         &mut network.nets,
+        room,
         place,
     )
 }

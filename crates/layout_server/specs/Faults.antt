@@ -30,7 +30,6 @@ kind_word kinds.Window = codes "window"
 kind_word kinds.Shape = codes "shape"
 kind_word kinds.Points = codes "points"
 kind_word kinds.Style = codes "style"
-kind_word kinds.Later = codes "later"
 
 -- the fault of what has more than 64 MiB: it is told at the first byte that is too many
 abbrev pub too_large : DesignFault

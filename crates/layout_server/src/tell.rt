@@ -70,7 +70,6 @@ fn kind_text(kind: DesignKind) -> &'static [u8]
         DesignKind::Shape => b"shape",
         DesignKind::Points => b"points",
         DesignKind::Style => b"style",
-        DesignKind::Later => b"later",
     }
 }
 

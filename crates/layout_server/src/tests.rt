@@ -12,6 +12,13 @@ const DESIGN: &str =
 const LAYERS: &str =
     "(pcb b.dsn (unit um) (structure (layer L1 (type signal)) (layer L2 (type signal)) (via V) (rule (width 100) (clearance 200))) (library (padstack V (shape (circle L1 600)) (shape (circle L2 600)))) (network (net A) (net B) (net C)))";
 
+// Two parts with an outline, one of them on the back and turned.
+const PARTS: &str =
+    "(pcb board.dsn (parser (string_quote \") (space_in_quoted_tokens on) (host_cad \"a layout editor\") (host_version \"7.0\") ) (resolution um 10) (unit um) (structure (layer F.Cu (type signal) (property (index 0))) (layer B.Cu (type signal) (property (index 1))) (boundary (path pcb 0 0 0 20000 0 20000 -10000 0 -10000 0 0) ) (via \"Via[0-1]_800:400_um\") (rule (width 250) (clearance 200) (clearance 200 (type default_smd)) (clearance 50 (type smd_smd)) ) ) (placement (component R_0805 (place R1 5000 -5000 front 0 (PN 10k)) (place R2 15000 -5000 back 90 (PN 10k)) ) ) (library (image R_0805 (outline (path signal 120 -1600 800 1600 800)) (pin Rect[T]Pad_1000x1200_um 1 -1000 0) (pin Rect[T]Pad_1000x1200_um (rotate 90) 2 1000 0) ) (padstack Rect[T]Pad_1000x1200_um (shape (rect F.Cu -500 -600 500 600)) (attach off) ) (padstack \"Via[0-1]_800:400_um\" (shape (circle F.Cu 800)) (shape (circle B.Cu 800)) (attach off) ) ) (network (net GND (pins R1-1 R2-2)) (net \"Net-(R1-2)\" (pins R1-2 R2-1)) (class default \"\" GND \"Net-(R1-2)\" (circuit (use_via \"Via[0-1]_800:400_um\")) (rule (width 250) (clearance 200)) ) ) (wiring (wire (path F.Cu 250 4000 -5000 4000 -8000)(net GND)(type protect)) (via \"Via[0-1]_800:400_um\" 4000 -8000 (net GND)(type protect)) ) )";
+
+const KEEPOUT: &str =
+    "(pcb b.dsn (unit um) (structure (layer L1 (type signal)) (layer L2 (type signal)) (via V) (rule (width 100) (clearance 200)) (keepout \"\" (rect L1 0 0 10000 10000))) (library (padstack V (shape (circle L1 600)) (shape (circle L2 600)))) (network (net A) (net B) (net C)))";
+
 // Two wires that cross, and a point that is a thousandth of a micrometre too near to a slanting wire.
 const CROSSING: &str = "do 1 edit 0 1 wire 0 0 250000 2 0 0 4000000 3000000
 do 2 edit 0 1 wire 1 0 250000 2 4000000 0 0 3000000
@@ -216,6 +223,25 @@ fn statuses_have_their_lines(rt: HostRuntime) -> Result<(), Fail> {
     let alloc = rt.alloc();
     for (design, script, status, output) in [
         (DESIGN, "", 0, "journal 0\n"),
+        (PARTS, "", 0, "journal 0\n"),
+        (
+            PARTS,
+            "do 1 edit 0 1 wire 0 0 250000 2 4000000 -8000000 4000000 -9875000\n",
+            0,
+            "1 no outside 1\njournal 0\n",
+        ),
+        (
+            PARTS,
+            "do 1 edit 0 1 wire 0 0 250000 2 4000000 -8000000 4000000 -9874999\n",
+            0,
+            "1 ok 1\njournal 1\nentry 1 1 edit 0 1 wire 0 0 250000 2 4000000 -8000000 4000000 -9874999\n",
+        ),
+        (
+            KEEPOUT,
+            "do 1 edit 0 1 via 0 0 5000000 5000000\ndo 1 edit 0 1 via 0 0 -300000 5000000\ndo 1 edit 0 1 via 0 0 -300001 5000000\n",
+            0,
+            "1 no clash 1 1\n1 no clash 1 1\n1 ok 1\njournal 1\nentry 1 1 edit 0 1 via 0 0 -300001 5000000\n",
+        ),
         (
             DESIGN,
             "do 1 edit 0 1 wire 0 0 250000 2 0 0 1000000 0\ndo 2 edit 0 1 wire 1 0 250000 2 0 449999 1000000 449999\n",
@@ -334,6 +360,23 @@ fn each_call_of_the_files_fails_in_turn(rt: HostRuntime) -> Result<(), Fail> {
     assert_eq!(rt; run(alloc, &replay_words(alloc)?, &mut files, &mut out), 4);
     assert_eq!(rt; out.written(), b"write\n".as_slice());
     assert_eq!(rt; session_of(&files), b"".as_slice());
+    Ok(())
+}
+
+// A session in pieces of 16 bytes, of which the third isn't taken.
+#[test]
+fn a_session_that_is_cut_is_a_front(rt: HostRuntime) -> Result<(), Fail> {
+    let alloc = rt.alloc();
+    let mut files = files_of(alloc, PARTS, "")?;
+    files.set_piece(16);
+    files.fail_write(3)?;
+    let mut out = MemSink::new(alloc);
+    assert_eq!(rt; run(alloc, &replay_words(alloc)?, &mut files, &mut out), 4);
+    assert_eq!(rt; out.written(), b"journal 0\nwrite\n".as_slice());
+    assert_eq!(rt;
+        session_of(&files),
+        b"(session board.dsn\n  (base_desig".as_slice()
+    );
     Ok(())
 }
 
