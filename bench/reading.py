@@ -1,6 +1,6 @@
 #!/usr/bin/env python3
-"""Measures reading: the program on designs whose names fill 8 to 64 MiB and on designs of many padstacks,
-and the tree of texts of 4 to 64 MiB against `wc -w` on the same file. Give it no words; build with
+"""Measures reading: the program on designs whose names fill 8 to 64 MiB, on designs of many padstacks and on a
+board of parts and wires, and the tree of texts of 4 to 64 MiB against `wc -w` on the same file. Give it no words; build with
 `rt run` first.
 
 It prints a row a size: processor seconds, the most memory in MB, and what it is compared with.
@@ -85,6 +85,35 @@ def wirings(folder):
         print(f"{nets} {2 * nets} {size:.1f} {seconds:.2f} {most:.0f} {words:.3f} {seconds / words:.1f} {status} {output.decode().strip()}")
 
 
+def write_board(path, parts, wires, end):
+    """A board of so many parts of two pads each, on both sides, and so many wires, all far enough from each other. The
+    end is put behind the wires."""
+    with open(path, "wb") as file:
+        file.write(b"(pcb s.dsn (unit um) (structure (layer L1 (type signal)) (layer L2 (type signal)) (boundary (rect pcb -1000 -1000 900000 900000)) (rule (width 100) (clearance 200)))")
+        file.write(b" (library (image I (pin V 1 -1000 0) (pin V (rotate 45) 2 1000 0)) (padstack V (shape (rect L1 -400 -300 400 300)))) (placement (component I")
+        for i in range(parts):
+            file.write(b" (place U%d %d %d %s %d)" % (i, i % 100 * 5000, i // 100 * 5000, (b"front", b"back")[i % 2], i % 8 * 45))
+        file.write(b")) (network")
+        for i in range(parts):
+            file.write(b" (net N%d (pins U%d-1 U%d-2))" % (i, i, (i + 1) % parts))
+        file.write(b") (wiring")
+        for i in range(wires):
+            x, y = i % 100 * 5000, 100000 + i // 100 * 5000
+            file.write(b" (wire (path L%d 200 %d %d %d %d) (net N%d))" % (i % 2 + 1, x, y, x + 3000, y + 3000, i % parts))
+        file.write(end + b"))")
+
+
+def boards(folder):
+    print("parts of two pads, wires: MiB, seconds for all, and for reading alone, MB, what is told of each")
+    for parts, wires in ((1000, 8000),):
+        path = os.path.join(folder, "b.dsn")
+        write_board(path, parts, wires, b"")
+        whole, most, _, told = timed([SERVER, "check", path])
+        write_board(path, parts, wires, b" (wire (path L1 200 0 0 1 1))")
+        alone, _, _, other = timed([SERVER, "check", path])
+        print(f"{parts} {wires} {os.path.getsize(path) / MIB:.1f} {whole:.2f} {alone:.2f} {most:.0f} {told.decode().strip()}, {other.decode().strip()}")
+
+
 def designs(folder):
     print("design of 1,000 nets: MiB, seconds, MB, status")
     for mib in (8, 16, 32, 64):
@@ -126,6 +155,7 @@ def main():
         designs(folder)
         libraries(folder)
         wirings(folder)
+        boards(folder)
         trees(folder)
     return 0
 
