@@ -1,7 +1,7 @@
 #!/usr/bin/env python3
-"""Measures reading: the program on designs whose names fill 8 to 64 MiB, on designs of many padstacks and on a
-board of parts and wires, and the tree of texts of 4 to 64 MiB against `wc -w` on the same file. Give it no words; build with
-`rt run` first.
+"""Measures reading: the program on designs whose names fill 8 to 64 MiB, on designs of many padstacks, on a board of
+parts and wires and on designs at the limits, and the tree of texts of 4 to 64 MiB against `wc -w` on the same file. Give it
+no words; build with `rt run` first.
 
 It prints a row a size: processor seconds, the most memory in MB, and what it is compared with.
 A child's memory is counted from its start as a copy of this process, so no text is held whole here.
@@ -114,6 +114,70 @@ def boards(folder):
         print(f"{parts} {wires} {os.path.getsize(path) / MIB:.1f} {whole:.2f} {alone:.2f} {most:.0f} {told.decode().strip()}, {other.decode().strip()}")
 
 
+TWO_LAYERS = b"(pcb s.dsn (unit um) (structure (layer L1 (type signal)) (layer L2 (type signal)) (rule (width 100) (clearance 100)))"
+# Two wires of two nets at one place, where each design below has its first item.
+END = b" (wire (path L1 1 0 0 1 1) (net Y)) (wire (path L1 1 0 0 1 1) (net Z))))"
+
+
+def write_many_wires(path, wires):
+    """So many wires of 20 points."""
+    with open(path, "wb") as file:
+        file.write(TWO_LAYERS + b" (wiring")
+        for i in range(wires):
+            points = b"".join(b" %d %d" % (x * 100 + i % 7, i % 100000) for x in range(20))
+            file.write(b" (wire (path L1 200" + points + b") (net N%d))" % (i % 1000))
+        file.write(END)
+
+
+def write_many_pads(path, parts):
+    """So many parts of 99 pads of 20 points, each pin in the net of its part."""
+    ring = b"".join(b" %d %d" % (x * 10, x * x % 97) for x in range(20))
+    with open(path, "wb") as file:
+        file.write(TWO_LAYERS + b" (library (padstack V (shape (polygon L1 0" + ring + b"))) (image I")
+        for k in range(99):
+            file.write(b" (pin V %d %d 0)" % (k, k * 300))
+        file.write(b")) (placement (component I")
+        for i in range(parts):
+            file.write(b" (place U%d %d %d %s %d)" % (i, i % 100, i // 100 * 500, (b"front", b"back")[i % 2], i % 8 * 45))
+        file.write(b")) (network")
+        for i in range(parts):
+            file.write(b" (net N%d (pins%s))" % (i, b"".join(b" U%d-%d" % (i, k) for k in range(99))))
+        file.write(b") (wiring" + END)
+
+
+def write_circles(path, mib, layer):
+    """Padstacks of 100 circles on one or every layer of 32 that fill so many MiB nearly; gives how many circles they are."""
+    stacks = 0
+    with open(path, "wb") as file:
+        file.write(b"(pcb s.dsn (unit um) (structure")
+        for i in range(32):
+            file.write(b"(layer L%d(type signal))" % i)
+        file.write(b"(rule(width 100)(clearance 100)))(library")
+        while file.tell() < mib * MIB - 2000:
+            file.write(b"(padstack P%d(shape" % stacks + b"(circle %s 1)" % layer * 100 + b"))")
+            stacks += 1
+        file.write(b"))")
+    return stacks * 100
+
+
+def limits(folder):
+    path = os.path.join(folder, "m.dsn")
+
+    def row(name):
+        seconds, most, _, output = timed([SERVER, "check", path])
+        print(f"  {name:24s} {os.path.getsize(path) / MIB:6.1f} {seconds:8.2f} {most:8.0f} {output.decode().strip()}")
+
+    print("designs at the limits: MiB, seconds, MB, what is told")
+    for quarters in (1, 2, 4):
+        write_many_wires(path, 49999 * quarters)
+        row(f"{49999 * quarters} wires")
+    for quarters in (1, 2, 4):
+        write_many_pads(path, 500 * quarters)
+        row(f"{49500 * quarters} pads")
+    for layer, mib in ((b"pcb", 1), (b"pcb", 2), (b"pcb", 4), (b"L1", 32)):
+        row(f"{write_circles(path, mib, layer)} circles on {layer.decode()}")
+
+
 def designs(folder):
     print("design of 1,000 nets: MiB, seconds, MB, status")
     for mib in (8, 16, 32, 64):
@@ -156,6 +220,7 @@ def main():
         libraries(folder)
         wirings(folder)
         boards(folder)
+        limits(folder)
         trees(folder)
     return 0
 
