@@ -105,13 +105,13 @@ def write_board(path, parts, wires, end):
 
 def boards(folder):
     print("parts of two pads, wires: MiB, seconds for all, and for reading alone, MB, what is told of each")
-    for parts, wires in ((1000, 8000),):
-        path = os.path.join(folder, "b.dsn")
-        write_board(path, parts, wires, b"")
-        whole, most, _, told = timed([SERVER, "check", path])
-        write_board(path, parts, wires, b" (wire (path L1 200 0 0 1 1))")
-        alone, _, _, other = timed([SERVER, "check", path])
-        print(f"{parts} {wires} {os.path.getsize(path) / MIB:.1f} {whole:.2f} {alone:.2f} {most:.0f} {told.decode().strip()}, {other.decode().strip()}")
+    parts, wires = 1000, 8000
+    path = os.path.join(folder, "b.dsn")
+    write_board(path, parts, wires, b"")
+    whole, most, _, told = timed([SERVER, "check", path])
+    write_board(path, parts, wires, b" (wire (path L1 200 0 0 1 1))")
+    alone, _, _, other = timed([SERVER, "check", path])
+    print(f"{parts} {wires} {os.path.getsize(path) / MIB:.1f} {whole:.2f} {alone:.2f} {most:.0f} {told.decode().strip()}, {other.decode().strip()}")
 
 
 TWO_LAYERS = b"(pcb s.dsn (unit um) (structure (layer L1 (type signal)) (layer L2 (type signal)) (rule (width 100) (clearance 100)))"
