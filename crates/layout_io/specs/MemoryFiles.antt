@@ -69,4 +69,3 @@ pub record KeepsTold (old new : MemFiles) : Type 0 where
   pub asked : asked_of new ≡ asked_of old
   pub read_faults : new.read_faults ≡ old.read_faults
   pub write_faults : new.write_faults ≡ old.write_faults
-  pub ran_out : new.ran_out ≡ old.ran_out

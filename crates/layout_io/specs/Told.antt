@@ -21,6 +21,19 @@ pub record Disk : Type 0 where
   pub left : ℕ → List ℕ
   pub target : ℕ → List ℕ
 
+-- what a sink tells: the bytes written, where it tells them, and how often a write answered `Failed` and how often `Memory`
+pub record SinkTold : Type 0 where
+  pub written : Option (List ℕ)
+  pub faults : ℕ
+  pub shortages : ℕ
+
+-- what files tell: the disk, where they tell it, the names asked for in order, and how often an open or a read, and a create or a write, answered `Failed`
+pub record FilesTold : Type 0 where
+  pub disk : Option Disk
+  pub asked : List (List ℕ)
+  pub read_faults : ℕ
+  pub write_faults : ℕ
+
 -- the bytes under a name
 abbrev pub bytes_of : List Stored → List ℕ → Option (List ℕ)
 bytes_of files name = option_map (λ (f : Stored). f.bytes) (find (λ (f : Stored). bytes_eq f.name name) files)

@@ -1,5 +1,5 @@
 //! The files of the machine. They tell nothing of bytes: this is the trusted edge.
-ghost use Rattle.std.specs.Prelude.{◌≡◌, false, ◌<◌, ◌^◌, ◌++◌, ◌∷◌, [], length, vec_len, vec_capacity, IfOk, OnOk, OnErr, is_ok, if◌then◌else◌};
+ghost use Rattle.std.specs.Prelude.{◌≡◌, ◌<◌, ◌^◌, ◌++◌, ◌∷◌, [], length, vec_len, vec_capacity, IfOk, OnOk, OnErr, is_ok, if◌then◌else◌};
 
 use crate::{Files, IoFault, Name, Row};
 use std::alloc::{AllocError, Global};
@@ -17,7 +17,6 @@ pub struct HostFiles {
     asked: Vec<Name>,
     read_faults: u64,
     write_faults: u64,
-    ran_out: bool,
 }
 
 impl HostFiles {
@@ -28,7 +27,6 @@ impl HostFiles {
         ensures asked { result.asked.items ≡ [] }
         ensures read_faults { result.read_faults ≡ 0 }
         ensures write_faults { result.write_faults ≡ 0 }
-        ensures ran_out { result.ran_out ≡ false }
     {
         let alloc = rt.alloc();
         HostFiles {
@@ -38,7 +36,6 @@ impl HostFiles {
             asked: Vec::new(alloc),
             read_faults: 0,
             write_faults: 0,
-            ran_out: false,
         }
     }
 }
@@ -69,19 +66,11 @@ fn room(
 impl Files for HostFiles {
     ghost use Rattle.std.specs.Prelude.{◌<◌, ℕ, length, None};
 
-    ghost disk = { λ h. None };
-
-    ghost asked = { λ h. h.asked.items };
+    ghost told = { λ h. record { disk = None; asked = h.asked.items; read_faults = h.read_faults; write_faults = h.write_faults } };
 
     ghost reads = { λ h n. n < length h.readers.items };
 
     ghost writes = { λ h n. n < length h.writers.items };
-
-    ghost read_faults = { λ h. h.read_faults };
-
-    ghost write_faults = { λ h. h.write_faults };
-
-    ghost ran_out = { λ h. h.ran_out };
 
     fn open_read(&mut self, name: &str) -> Result<u32, IoFault> {
         let copy = room(self.rt.alloc(), &mut self.readers, &mut self.asked, name)?;

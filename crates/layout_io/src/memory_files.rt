@@ -1,5 +1,5 @@
 //! Files in memory, for tests.
-ghost use Rattle.std.specs.Prelude.{◌≡◌, ◌<◌, ◌≤◌, ◌++◌, ◌∷◌, ◌⊎◌, [], Some, None, false, OnErr, OnOk, IfOk, IfSome, IfNone, MatchOption, ℕ, length, min, take, is_ok, if◌then◌else◌};
+ghost use Rattle.std.specs.Prelude.{◌≡◌, ◌<◌, ◌≤◌, ◌++◌, ◌∷◌, ◌⊎◌, [], Some, None, OnErr, OnOk, IfOk, IfSome, IfNone, MatchOption, ℕ, length, min, take, is_ok, if◌then◌else◌};
 
 use crate::calls::is_due;
 use crate::numbers::{add_reader, add_target, note};
@@ -22,7 +22,6 @@ pub struct MemFiles {
     write_calls: u64,
     read_faults: u64,
     write_faults: u64,
-    ran_out: bool,
     most: usize,
     ghost some: { 0 < most },
 }
@@ -38,7 +37,6 @@ impl MemFiles {
         ensures asked { asked_of result ≡ [] }
         ensures read_faults { result.read_faults ≡ 0 }
         ensures write_faults { result.write_faults ≡ 0 }
-        ensures ran_out { result.ran_out ≡ false }
     {
         MemFiles {
             alloc,
@@ -52,7 +50,6 @@ impl MemFiles {
             write_calls: 0,
             read_faults: 0,
             write_faults: 0,
-            ran_out: false,
             most: usize::MAX,
         }
     }
@@ -118,23 +115,15 @@ impl MemFiles {
 
 impl Files for MemFiles {
     ghost use Rattle.layout_io.specs.Calls.{CountsOne, FailsExactly, FailsUnlessMemory};
-    ghost use Rattle.layout_io.specs.Causes.{HasCause, RanOut};
+    ghost use Rattle.layout_io.specs.Causes.{HasCause};
     ghost use Rattle.layout_io.specs.MemoryFiles.{disk_of, plan_of, asked_of, stored_files, IsReader, IsWriter, IsReadDue, IsWriteDue, after_read, after_write};
     ghost use Rattle.layout_io.specs.Told.{AsksFor, Gave, IsOpened, IsRead, IsCreated, IsWritten, bytes_of};
 
-    ghost disk = { λ m. Some (disk_of m) };
-
-    ghost asked = { λ m. asked_of m };
+    ghost told = { λ m. record { disk = Some (disk_of m); asked = asked_of m; read_faults = m.read_faults; write_faults = m.write_faults } };
 
     ghost reads = { λ m n. IsReader m n };
 
     ghost writes = { λ m n. IsWriter m n };
-
-    ghost read_faults = { λ m. m.read_faults };
-
-    ghost write_faults = { λ m. m.write_faults };
-
-    ghost ran_out = { λ m. m.ran_out };
 
     /// Opens the file for reading, but where the call is listed to fail, no file has the name or
     /// memory runs out.
@@ -146,7 +135,6 @@ impl Files for MemFiles {
         ensures writes { (k : ℕ) → IsWriter self.old k → IsWriter self.new k }
         ensures cause { HasCause self.old.read_faults self.new.read_faults result }
         ensures other_count { self.new.write_faults ≡ self.old.write_faults }
-        ensures memory { self.new.ran_out ≡ self.old.ran_out }
         ensures exact { FailsUnlessMemory (IsReadDue (plan_of self.old) ⊎ (bytes_of (stored_files self.old) name.now ≡ None)) result }
         ensures counted { CountsOne self.old.read_faults self.new.read_faults result }
         ensures plan { plan_of self.new ≡ after_read (plan_of self.old) }
@@ -185,7 +173,6 @@ impl Files for MemFiles {
         ensures writes { (k : ℕ) → IsWriter self.old k → IsWriter self.new k }
         ensures cause { HasCause self.old.read_faults self.new.read_faults result }
         ensures other_count { self.new.write_faults ≡ self.old.write_faults }
-        ensures memory { self.new.ran_out ≡ self.old.ran_out }
         ensures count { IfOk result (λ k. k ≡ min (length into.new) (length ((disk_of self.old).left file))) }
         ensures exact { FailsExactly (IsReadDue (plan_of self.old)) result }
         ensures counted { CountsOne self.old.read_faults self.new.read_faults result }
@@ -208,7 +195,6 @@ impl Files for MemFiles {
         ensures writes { Gave (IsWriter self.old) (IsWriter self.new) result }
         ensures cause { HasCause self.old.write_faults self.new.write_faults result }
         ensures other_count { self.new.read_faults ≡ self.old.read_faults }
-        ensures memory { self.new.ran_out ≡ self.old.ran_out }
         ensures exact { FailsUnlessMemory (IsReadDue (plan_of self.old)) result }
         ensures counted { CountsOne self.old.write_faults self.new.write_faults result }
         ensures plan { plan_of self.new ≡ after_read (plan_of self.old) }
@@ -240,7 +226,6 @@ impl Files for MemFiles {
         ensures writes { (k : ℕ) → IsWriter self.old k → IsWriter self.new k }
         ensures cause { HasCause self.old.write_faults self.new.write_faults result }
         ensures other_count { self.new.read_faults ≡ self.old.read_faults }
-        ensures memory { RanOut self.old.ran_out self.new.ran_out result }
         ensures count { IfOk result (λ k. k ≡ min (length piece.now) (plan_of self.old).most) }
         ensures exact { FailsUnlessMemory (IsWriteDue (plan_of self.old)) result }
         ensures counted { CountsOne self.old.write_faults self.new.write_faults result }
@@ -254,10 +239,7 @@ impl Files for MemFiles {
         let name = &self.targets[file as usize];
         match grow(&mut self.files, name.as_slice(), &piece[..count]) {
             Ok(()) => Ok(count),
-            Err(_) => {
-                self.ran_out = true;
-                Err(IoFault::Memory)
-            }
+            Err(_) => Err(IoFault::Memory),
         }
     }
 }

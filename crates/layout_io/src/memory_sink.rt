@@ -1,5 +1,5 @@
 //! A sink in memory, for tests.
-ghost use Rattle.std.specs.Prelude.{◌≡◌, ◌++◌, ◌∷◌, [], length, false, IfOk, OnErr, if◌then◌else◌, is_ok};
+ghost use Rattle.std.specs.Prelude.{◌≡◌, ◌++◌, ◌∷◌, [], length, IfOk, OnErr, if◌then◌else◌, is_ok};
 
 use crate::calls::is_due;
 use crate::{IoFault, Sink};
@@ -12,7 +12,7 @@ pub struct MemSink {
     failing: Vec<u64>,
     calls: u64,
     faults: u64,
-    ran_out: bool,
+    shortages: u64,
 }
 
 impl MemSink {
@@ -24,14 +24,14 @@ impl MemSink {
         ensures failing { sink_failing result ≡ [] }
         ensures writes { sink_writes result ≡ 0 }
         ensures faults { result.faults ≡ 0 }
-        ensures ran_out { result.ran_out ≡ false }
+        ensures shortages { result.shortages ≡ 0 }
     {
         MemSink {
             bytes: Vec::new(alloc),
             failing: Vec::new(alloc),
             calls: 0,
             faults: 0,
-            ran_out: false,
+            shortages: 0,
         }
     }
 
@@ -57,22 +57,18 @@ impl Sink for MemSink {
     ghost use Rattle.std.specs.Prelude.{Some};
     ghost use Rattle.std.specs.Io.KnownBytes.{Keeps};
     ghost use Rattle.layout_io.specs.Calls.{CountsOne, FailsUnlessMemory, IsListed, next_number};
-    ghost use Rattle.layout_io.specs.Causes.{HasCause, RanOut};
+    ghost use Rattle.layout_io.specs.Causes.{HasCause, HasShortage};
     ghost use Rattle.layout_io.specs.Memory.{sink_bytes, sink_failing, sink_writes};
     ghost use Rattle.layout_io.specs.Told.{Wrote};
 
-    ghost written = { λ s. Some s.bytes.items };
-
-    ghost faults = { λ s. s.faults };
-
-    ghost ran_out = { λ s. s.ran_out };
+    ghost told = { λ s. record { written = Some s.bytes.items; faults = s.faults; shortages = s.shortages } };
 
     /// Takes the whole piece, but where the write is listed to fail or memory runs out.
     fn write(&mut self, piece: &[u8]) -> Result<usize, IoFault>
         ensures ok { IfOk result (Wrote piece.now (Some (sink_bytes self.old)) (Some (sink_bytes self.new))) }
         ensures err { OnErr result (Keeps (Some (sink_bytes self.old)) (Some (sink_bytes self.new))) }
         ensures cause { HasCause self.old.faults self.new.faults result }
-        ensures memory { RanOut self.old.ran_out self.new.ran_out result }
+        ensures memory { HasShortage self.old.shortages self.new.shortages result }
         ensures whole { IfOk result (λ k. k ≡ length piece.now) }
         ensures exact { FailsUnlessMemory (IsListed (sink_failing self.old) (sink_writes self.old)) result }
         ensures counted { CountsOne self.old.faults self.new.faults result }
@@ -86,7 +82,7 @@ impl Sink for MemSink {
         match self.bytes.extend_from_slice(piece) {
             Ok(()) => Ok(piece.len()),
             Err(_) => {
-                self.ran_out = true;
+                self.shortages = self.shortages.saturating_add(1);
                 Err(IoFault::Memory)
             }
         }
