@@ -1,6 +1,7 @@
 -- Copper at its place: the segments of chains and the edges of areas; all lengths in nanometres
 -- Cited by every call that takes a shape
 use Rattle.std.specs.Prelude.{◌≤◌, ℕ, List, [], ◌∷◌, ◌++◌, Bool, true, false, map, All, ◌+ℤ◌, cond}
+use Rattle.row_lists.specs.Limits.{width_limit_nm}
 use Rattle.seg_geometry.specs.declared.points.Pt.{Pt}
 use Rattle.seg_geometry.specs.declared.points.Seg.{Seg}
 use Rattle.seg_geometry.specs.Points.{IsInRange}
@@ -45,7 +46,7 @@ area_on layer points = record { layer = layer; area = true; points = points; wid
 -- the points are in range, and the width is at most a tenth of a metre
 pub record IsWithinLimits (s : Copper) : Type 0 where
   pub points : All IsInRange s.points
-  pub width : s.width ≤ 100000000
+  pub width : s.width ≤ width_limit_nm
 
 -- the segments that lead from a point through each of the others in turn
 unfoldable pub path : Pt → List Pt → List Seg

@@ -2,13 +2,15 @@
 #![tactic(auto)]
 
 mod apart;
+mod limits;
 mod pieces;
 mod rings;
 mod shapes;
 
 pub use apart::{apart_both_ways, lies_within, shape_keeps, touches};
+pub use limits::is_within_limits;
 pub use rings::inside;
-pub use shapes::{Core, Shape, ShapeView, Shapes, copy_shapes};
+pub use shapes::{Core, Shape, ShapeView, Shapes, copy_shapes, points_of};
 
 #[cfg(test)]
 mod tests;

@@ -1,8 +1,8 @@
 //! The shapes of copper, owned and borrowed.
 ghost use Rattle.std.specs.Prelude.{◌≡◌, IfOk};
-ghost use Rattle.area_geometry.specs.Copper.{copper_of, placed};
+ghost use Rattle.area_geometry.specs.Copper.{copper_of, core_points, placed};
 
-use row_lists::Row;
+use row_lists::{Copied, Row};
 use seg_geometry::{Points, Pt};
 use std::alloc::{AllocError, Global};
 
@@ -36,15 +36,31 @@ pub struct ShapeView<'a> {
     pub at: Pt,
 }
 
+impl Copied for Core {
+    fn copied(&self) -> Result<Core, AllocError> {
+        match self {
+            Core::Chain(points) => Ok(Core::Chain(points.copied()?)),
+            Core::Area(points) => Ok(Core::Area(points.copied()?)),
+        }
+    }
+}
+
 impl Core {
     /// An equal core. Its one error is want of memory.
     pub fn copy(&self) -> Result<Core, AllocError>
         ensures { IfOk result (λ core. core ≡ self.now) }
     {
-        match self {
-            Core::Chain(points) => Ok(Core::Chain(points.copy()?)),
-            Core::Area(points) => Ok(Core::Area(points.copy()?)),
-        }
+        self.copied()
+    }
+}
+
+/// The points of a core.
+pub fn points_of(core: &Core) -> &[Pt]
+    ensures { result.now ≡ core_points core.now }
+{
+    match core {
+        Core::Chain(points) => points.as_slice(),
+        Core::Area(points) => points.as_slice(),
     }
 }
 
@@ -65,26 +81,21 @@ impl Shape {
             at,
         }
     }
+}
 
-    /// An equal shape. Its one error is want of memory.
-    pub fn copy(&self) -> Result<Shape, AllocError>
-        ensures { IfOk result (λ shape. shape ≡ self.now) }
-    {
+impl Copied for Shape {
+    fn copied(&self) -> Result<Shape, AllocError> {
         Ok(Shape {
             layer: self.layer,
-            core: self.core.copy()?,
+            core: self.core.copied()?,
             width: self.width,
         })
     }
 }
 
 /// Equal shapes in the same order. Its one error is want of memory.
-pub fn copy_shapes(alloc: Global, shapes: &Shapes) -> Result<Shapes, AllocError>
+pub fn copy_shapes(_alloc: Global, shapes: &Shapes) -> Result<Shapes, AllocError>
     ensures { IfOk result (λ all. all ≡ shapes.now) }
 {
-    let mut all = Shapes::new(alloc);
-    for shape in shapes.as_slice() {
-        all.push(shape.copy()?)?;
-    }
-    Ok(all)
+    shapes.copy()
 }

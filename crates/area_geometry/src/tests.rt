@@ -1,9 +1,8 @@
-ghost use Rattle.std.specs.Prelude.{◌≡◌, ◌<◌, All, IsTrue};
-ghost use Rattle.seg_geometry.specs.Points.{IsInRange};
-ghost use Rattle.area_geometry.specs.Copper.{copper_of, moved, IsWithinLimits};
+ghost use Rattle.std.specs.Prelude.{◌≡◌, ◌<◌};
 
 use crate::{
-    Core, Shape, ShapeView, Shapes, copy_shapes, inside, lies_within, shape_keeps, touches,
+    Core, Shape, ShapeView, Shapes, inside, is_within_limits, lies_within, points_of, shape_keeps,
+    touches,
 };
 use seg_geometry::{Points, Pt, Steps, in_range};
 use std::marker::Brand;
@@ -38,30 +37,6 @@ fn moved_to(s: ShapeView<'_>, x: i64, y: i64) -> ShapeView<'_> {
     ShapeView { at: pt(x, y), ..s }
 }
 
-fn lies_in_range(p: Pt, at: Pt) -> bool
-    ensures { IsTrue result → IsInRange (moved at p) }
-{
-    if !in_range(p) {
-        return false;
-    }
-    if !in_range(at) {
-        return false;
-    }
-    in_range(pt(p.x + at.x, p.y + at.y))
-}
-
-fn all_in_range(points: &[Pt], at: Pt) -> bool
-    ensures { IsTrue result → All (λ p. IsInRange (moved at p)) points.now }
-{
-    points.iter().all(|p| lies_in_range(*p, at))
-}
-
-fn fits(s: ShapeView<'_>) -> bool
-    ensures { IsTrue result → IsWithinLimits (copper_of s.entry) }
-{
-    s.width <= 100_000_000 && all_in_range(s.points, s.at)
-}
-
 /// What `shape_keeps` answers, or None where its condition isn't met.
 fn keeps<L: Ledger>(s: ShapeView<'_>, t: ShapeView<'_>, c: u32, blank: Blank) -> Option<bool>
     requires name { blank.name ≡ L.name }
@@ -69,7 +44,7 @@ fn keeps<L: Ledger>(s: ShapeView<'_>, t: ShapeView<'_>, c: u32, blank: Blank) ->
     requires some { 0 < blank.parts }
 {
     let mut steps = Steps::<L>::new(blank);
-    if fits(s) && fits(t) && c <= 100_000_000 {
+    if is_within_limits(s) && is_within_limits(t) && c <= 100_000_000 {
         return Some(shape_keeps(s, t, c, &mut steps));
     }
     None
@@ -82,7 +57,7 @@ fn reaches<L: Ledger>(s: ShapeView<'_>, ring: &[Pt], blank: Blank) -> Option<boo
     requires some { 0 < blank.parts }
 {
     let mut steps = Steps::<L>::new(blank);
-    if fits(s) && ring.iter().all(|p| in_range(*p)) {
+    if is_within_limits(s) && ring.iter().all(|p| in_range(*p)) {
         return Some(touches(s, ring, &mut steps));
     }
     None
@@ -95,7 +70,7 @@ fn keeps_within<L: Ledger>(s: ShapeView<'_>, ring: &[Pt], blank: Blank) -> Optio
     requires some { 0 < blank.parts }
 {
     let mut steps = Steps::<L>::new(blank);
-    if fits(s) && ring.iter().all(|p| in_range(*p)) {
+    if is_within_limits(s) && ring.iter().all(|p| in_range(*p)) {
         return Some(lies_within(s, ring, &mut steps));
     }
     None
@@ -238,8 +213,10 @@ fn shapes_touch_what_they_reach(rt: HostRuntime) -> Result<(), Fail> {
         core: Core::Chain(Points::from_slice(rt.alloc(), &spot)?),
         width: 7,
     })?;
-    let copied = copy_shapes(rt.alloc(), &shapes)?;
+    let copied = shapes.copy()?;
     assert_eq!(rt; copied.len(), 1, "the length of a copied list");
+    let core = &copied.get(0).core;
+    assert_eq!(rt; points_of(core).len(), 1, "the points of a copied shape");
     for (x, want) in [(14, true), (15, false)] {
         let shape = copied.get(0).view(pt(x, 5));
         assert_eq!(rt; shape.layer, 3, "the layer of a copied shape");

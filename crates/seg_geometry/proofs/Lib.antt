@@ -5,6 +5,7 @@ pub mod PointGap
 pub mod WaysOut
 pub mod SegGap
 pub mod Sizes
+pub mod TurnSigns
 pub mod Bridge
 pub mod Decided
 pub mod PointTests

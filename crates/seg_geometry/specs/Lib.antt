@@ -1,4 +1,5 @@
 pub mod Points
+pub mod Products
 pub mod Apart
 pub mod Ends
 pub mod Rectangles

@@ -5,13 +5,14 @@ mod points;
 mod rectangles;
 mod segments;
 mod steps;
+mod turns;
 mod vectors;
 
 pub use points::{Ids, Points, Pt, Seg, in_range};
 pub use rectangles::{Rect, rect_meets, rect_of};
 pub use segments::seg_keeps;
 pub use steps::Steps;
-pub use vectors::cross_sign;
+pub use turns::cross_sign;
 
 #[cfg(test)]
 mod tests;

@@ -2,10 +2,8 @@
 ghost use Rattle.std.specs.Prelude.{◌≡◌, ◌↔◌, IsTrue};
 ghost use Rattle.seg_geometry.specs.Points.{IsInRange};
 
-use row_lists::Row;
-
-/// How far a coordinate may be from 0, in nanometres.
-const COORDINATE_LIMIT_NM: u64 = 1_000_000_000;
+use row_lists::{COORDINATE_LIMIT_NM, Copied, Row};
+use std::alloc::AllocError;
 
 /// A point with whole coordinates, in nanometres.
 #[derive(Clone, Copy, Debug, PartialEq, Eq)]
@@ -19,6 +17,12 @@ pub struct Pt {
 pub struct Seg {
     pub a: Pt,
     pub b: Pt,
+}
+
+impl Copied for Pt {
+    fn copied(&self) -> Result<Pt, AllocError> {
+        Ok(*self)
+    }
 }
 
 /// A list of points.

@@ -178,6 +178,12 @@ fn a_rectangle_meets_what_touches_it(rt: HostRuntime) -> Result<(), Fail> {
         0,
         "straight back"
     );
+    let (low, high) = (i64::MIN, i64::MAX);
+    assert_eq!(rt;
+        cross_sign(pt(low, low), pt(high, high - 1), pt(high - 1, high - 2)),
+        -1,
+        "to the right between the farthest points"
+    );
     let mut points = Points::new(rt.alloc());
     points.push(pt(1, 2))?;
     assert_eq!(rt;

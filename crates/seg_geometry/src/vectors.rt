@@ -41,22 +41,3 @@ pub fn dot(u: Vector, v: Vector) -> i64
 {
     u.x * v.x + u.y * v.y
 }
-
-/// Which way the path a, b, c turns at b: 1 to the left, -1 to the right, 0 neither.
-pub fn cross_sign(a: Pt, b: Pt, c: Pt) -> i8
-    requires a_in { IsInRange a }
-    requires b_in { IsInRange b }
-    requires c_in { IsInRange c }
-    ensures left { (result ≡ pos 1) ↔ (pos 0 <ℤ turn_of a b c) }
-    ensures right { (result ≡ negsuc 0) ↔ (turn_of a b c <ℤ pos 0) }
-    ensures straight { (result ≡ pos 0) ↔ (turn_of a b c ≡ pos 0) }
-{
-    let turn = cross(way(a, b), way(a, c));
-    if turn > 0 {
-        1
-    } else if turn < 0 {
-        -1
-    } else {
-        0
-    }
-}
