@@ -1,13 +1,13 @@
 -- The shapes of lists at their place.
-use Rattle.std.proofs.Common.{◌≡◌, ℕ, zero, suc, ◌+◌, ◌<◌, List, [], ◌∷◌, length, map, arith, refl, sym, ap, subst, ◌∙◌}
-use Rattle.std.specs.Prelude.{Some, None, Option, slice_get, pos, ◌+ℤ◌, ℤ, false}
+use Rattle.std.proofs.Common.{◌≡◌, ℕ, zero, suc, ◌<◌, List, [], ◌∷◌, length, map, arith, refl, ap, subst, ◌∙◌}
+use Rattle.std.specs.Prelude.{Some, slice_get, pos, ◌+ℤ◌, ℤ, false}
 use Rattle.std.specs.Option.{option_map}
-use Rattle.std.proofs.lemmas.Option.{slice_get-map, slice_get-get_or, slice_get_within, slice_get_past, slice_get_cases}
+use Rattle.std.proofs.lemmas.Option.{slice_get-map}
 use Rattle.std.proofs.lemmas.Int.{ints}
 use Rattle.std.proofs.lemmas.List.{length-map}
 use Rattle.seg_geometry.specs.declared.points.Pt.{Pt}
 use Rattle.area_geometry.specs.declared.shapes.Shape.{Shape}
-use Rattle.area_geometry.specs.Copper.{Copper, moved, placed}
+use Rattle.area_geometry.specs.Copper.{moved, placed}
 use Rattle.board_items.specs.declared.items.Padstack.{Padstack}
 use Rattle.board_items.specs.Shapes.{origin, chain_on, shapes_of}
 

@@ -1,5 +1,5 @@
--- What an add makes, and what a borrowed item is.
-use Rattle.std.specs.Prelude.{ℕ, List, false}
+-- What an add makes, what a borrowed item is, and which items can't be deleted.
+use Rattle.std.specs.Prelude.{ℕ, Bool, false, true}
 use Rattle.board_items.specs.declared.items.Item.{Item}
 use Rattle.board_items.specs.declared.items.Item.TheVariants as items
 use Rattle.board_items.specs.declared.requests.Add.{Add}
@@ -23,3 +23,10 @@ item_seen (views.Wire net layer width points fix) = items.Wire net layer width p
 item_seen (views.Via net padstack place fix) = items.Via net padstack place fix
 item_seen (views.Pad net shapes) = items.Pad net shapes.now
 item_seen (views.Keep kind shapes) = items.Keep kind shapes.now
+
+-- the item can't be deleted
+abbrev pub is_fixed : Item → Bool
+is_fixed (items.Wire net layer width points fix) = fix
+is_fixed (items.Via net padstack place fix) = fix
+is_fixed (items.Pad net shapes) = true
+is_fixed (items.Keep kind shapes) = true

@@ -1,9 +1,8 @@
 -- The counts and numbers that a request may have.
-use Rattle.std.specs.Prelude.{ℕ, ◌≤◌, ◌<◌, ◌^◌, ◌≡◌, List, [], ◌∷◌, length}
+use Rattle.std.specs.Prelude.{ℕ, ◌≤◌, ◌<◌, ◌^◌, List, length}
 use Rattle.std.specs.List.{AllByRecursion}
 use Rattle.seg_geometry.specs.Points.{IsInRange}
 use Rattle.seg_geometry.specs.declared.points.Pt.{Pt}
-use Rattle.board_items.specs.declared.items.ItemId.{ItemId}
 use Rattle.board_items.specs.declared.requests.Add.{Add}
 use Rattle.board_items.specs.declared.requests.Add.TheVariants as adds
 use Rattle.board_items.specs.declared.requests.Request.{Request}

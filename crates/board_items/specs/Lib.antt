@@ -1,4 +1,5 @@
 pub mod Adds
 pub mod Formed
 pub mod Shapes
+pub mod Segments
 pub mod Weights

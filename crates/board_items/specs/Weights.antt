@@ -1,6 +1,6 @@
 -- How much of the history an act takes up.
 -- Cited by `weight`
-use Rattle.std.specs.Prelude.{ℕ, ◌+◌, ◌*◌, List, length, map}
+use Rattle.std.specs.Prelude.{ℕ, ◌+◌, ◌*◌, length, map}
 use Rattle.std.specs.List.{sum}
 use Rattle.board_items.specs.declared.requests.Add.{Add}
 use Rattle.board_items.specs.declared.requests.Add.TheVariants as adds

@@ -1,17 +1,15 @@
-//! Copies of requests. Their one error is want of memory.
+//! Equal copies of items, of requests and of what was answered. Their one error is want of memory.
 ghost use Rattle.std.specs.Prelude.{◌≡◌, IfOk};
 
-use crate::items::Item;
-use crate::requests::{Add, Adds, Clients, Layers, Request};
-use area_geometry::copy_shapes;
+use crate::history::{Act, Call, Entry};
+use crate::items::{Item, Padstack};
+use crate::requests::{Add, Clients, Layers, Request};
+use row_lists::Copied;
 use seg_geometry::Points;
 use std::alloc::{AllocError, Global};
 
-impl Add {
-    /// An equal add.
-    pub fn copy(&self) -> Result<Add, AllocError>
-        ensures { IfOk result (λ add. add ≡ self.now) }
-    {
+impl Copied for Add {
+    fn copied(&self) -> Result<Add, AllocError> {
         match self {
             Add::Wire {
                 net,
@@ -22,7 +20,7 @@ impl Add {
                 net: *net,
                 layer: *layer,
                 width: *width,
-                points: points.copy()?,
+                points: points.copied()?,
             }),
             Add::Via { net, padstack, at } => Ok(Add::Via {
                 net: *net,
@@ -33,37 +31,23 @@ impl Add {
     }
 }
 
-/// Equal adds in the same order.
-pub fn copy_adds(alloc: Global, adds: &Adds) -> Result<Adds, AllocError>
-    ensures { IfOk result (λ all. all ≡ adds.now) }
-{
-    let mut all = Adds::new(alloc);
-    for add in adds.as_slice() {
-        all.push(add.copy()?)?;
-    }
-    Ok(all)
-}
-
 // A boundary of equal lists.
-fn copy_fence(layers: &Layers, area: &Points, clients: &Clients) -> Result<Request, AllocError>
+fn copied_fence(layers: &Layers, area: &Points, clients: &Clients) -> Result<Request, AllocError>
     ensures { IfOk result (λ request. request ≡ Request.Fence layers.now area.now clients.now) }
 {
     Ok(Request::Fence {
-        layers: layers.copy()?,
-        area: area.copy()?,
-        clients: clients.copy()?,
+        layers: layers.copied()?,
+        area: area.copied()?,
+        clients: clients.copied()?,
     })
 }
 
-impl Request {
-    /// An equal request.
-    pub fn copy(&self, alloc: Global) -> Result<Request, AllocError>
-        ensures { IfOk result (λ request. request ≡ self.now) }
-    {
+impl Copied for Request {
+    fn copied(&self) -> Result<Request, AllocError> {
         match self {
             Request::Edit { deletes, adds } => Ok(Request::Edit {
-                deletes: deletes.copy()?,
-                adds: copy_adds(alloc, adds)?,
+                deletes: deletes.copied()?,
+                adds: adds.copied()?,
             }),
             Request::Reserve { id } => Ok(Request::Reserve { id: *id }),
             Request::Release { id } => Ok(Request::Release { id: *id }),
@@ -71,7 +55,7 @@ impl Request {
                 layers,
                 area,
                 clients,
-            } => copy_fence(layers, area, clients),
+            } => copied_fence(layers, area, clients),
             Request::Unfence { fence } => Ok(Request::Unfence { fence: *fence }),
             Request::Entitle { fence, client } => Ok(Request::Entitle {
                 fence: *fence,
@@ -81,11 +65,8 @@ impl Request {
     }
 }
 
-impl Item {
-    /// An equal item.
-    pub fn copy(&self, alloc: Global) -> Result<Item, AllocError>
-        ensures { IfOk result (λ item. item ≡ self.now) }
-    {
+impl Copied for Item {
+    fn copied(&self) -> Result<Item, AllocError> {
         match self {
             Item::Wire {
                 net,
@@ -97,7 +78,7 @@ impl Item {
                 net: *net,
                 layer: *layer,
                 width: *width,
-                points: points.copy()?,
+                points: points.copied()?,
                 fix: *fix,
             }),
             Item::Via {
@@ -113,12 +94,71 @@ impl Item {
             }),
             Item::Pad { net, shapes } => Ok(Item::Pad {
                 net: *net,
-                shapes: copy_shapes(alloc, shapes)?,
+                shapes: shapes.copied()?,
             }),
             Item::Keep { kind, shapes } => Ok(Item::Keep {
                 kind: *kind,
-                shapes: copy_shapes(alloc, shapes)?,
+                shapes: shapes.copied()?,
             }),
         }
+    }
+}
+
+impl Copied for Padstack {
+    fn copied(&self) -> Result<Padstack, AllocError> {
+        Ok(Padstack {
+            name: self.name.copied()?,
+            shapes: self.shapes.copied()?,
+        })
+    }
+}
+
+impl Copied for Act {
+    fn copied(&self) -> Result<Act, AllocError> {
+        match self {
+            Act::Ask { request } => Ok(Act::Ask {
+                request: request.copied()?,
+            }),
+            Act::Leave => Ok(Act::Leave),
+        }
+    }
+}
+
+impl Copied for Entry {
+    fn copied(&self) -> Result<Entry, AllocError> {
+        Ok(Entry {
+            number: self.number,
+            client: self.client,
+            act: self.act.copied()?,
+        })
+    }
+}
+
+impl Copied for Call {
+    fn copied(&self) -> Result<Call, AllocError> {
+        Ok(Call {
+            client: self.client,
+            base: self.base,
+            act: self.act.copied()?,
+            reply: self.reply,
+        })
+    }
+}
+
+impl Request {
+    /// An equal request.
+    pub fn copy(&self, _alloc: Global) -> Result<Request, AllocError>
+        ensures { IfOk result (λ request. request ≡ self.now) }
+    {
+        self.copied()
+    }
+}
+
+impl Item {
+    /// An equal item.
+    pub fn copy(&self, _alloc: Global) -> Result<Item, AllocError>
+        ensures { IfOk result (λ item. item ≡ self.now) }
+    {
+        self.copied()
     }
 }

@@ -9,12 +9,11 @@ mod shapes;
 mod views;
 mod weights;
 
-pub use copies::copy_adds;
 pub use history::{Act, Call, Calls, Entries, Entry, Reply, Why};
 pub use items::{Item, ItemId, Items, KeepKind, Padstack, Stacks};
 pub use requests::{Add, Adds, Clients, Layers, Request};
 pub use shapes::{shape_at, shape_count};
-pub use views::{ItemView, view, view_add};
+pub use views::{ItemView, is_fixed, item_of_add, view, view_add};
 pub use weights::weight;
 
 #[cfg(test)]

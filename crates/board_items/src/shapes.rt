@@ -1,5 +1,5 @@
 //! The shapes of an item at their place.
-ghost use Rattle.std.specs.Prelude.{◌≡◌, ◌<◌, ◌^◌, length, map, slice_get, Some};
+ghost use Rattle.std.specs.Prelude.{◌≡◌, ◌≤◌, ◌<◌, ◌-◌, ◌^◌, length, map, slice_get, Some};
 ghost use Rattle.area_geometry.specs.Copper.{copper_of, placed};
 ghost use Rattle.board_items.specs.Adds.{item_seen};
 ghost use Rattle.board_items.specs.Shapes.{copper_of_item, chain_on, shapes_of};
@@ -22,17 +22,32 @@ fn stack_count(stacks: &Stacks, padstack: u32) -> usize
     }
 }
 
-/// How many shapes an item has. A via of a padstack that isn't there has none.
-pub fn shape_count(item: ItemView<'_>, stacks: &Stacks) -> u32
-    requires { length (copper_of_item stacks.now (item_seen item)) < 2 ^ 32 }
+// The number, or the greatest of 32 bits where it is greater.
+fn saturated(count: usize) -> u32
+    ensures few { count < 2 ^ 32 → result ≡ count }
+    ensures many { 2 ^ 32 ≤ count → result ≡ 2 ^ 32 - 1 }
+{
+    u32::try_from(count).unwrap_or(u32::MAX)
+}
+
+// How many shapes an item has.
+fn count_of(item: ItemView<'_>, stacks: &Stacks) -> usize
     ensures { result ≡ length (copper_of_item stacks.now (item_seen item.entry)) }
 {
     match item {
         ItemView::Wire { .. } => 1,
-        ItemView::Via { padstack, .. } => stack_count(stacks, padstack) as u32,
-        ItemView::Pad { shapes, .. } => shapes.len() as u32,
-        ItemView::Keep { shapes, .. } => shapes.len() as u32,
+        ItemView::Via { padstack, .. } => stack_count(stacks, padstack),
+        ItemView::Pad { shapes, .. } => shapes.len(),
+        ItemView::Keep { shapes, .. } => shapes.len(),
     }
+}
+
+/// How many shapes an item has, or 4,294,967,295 where they are more. A via of a padstack that isn't there has none.
+pub fn shape_count(item: ItemView<'_>, stacks: &Stacks) -> u32
+    ensures few { length (copper_of_item stacks.now (item_seen item.entry)) < 2 ^ 32 → result ≡ length (copper_of_item stacks.now (item_seen item.entry)) }
+    ensures many { 2 ^ 32 ≤ length (copper_of_item stacks.now (item_seen item.entry)) → result ≡ 2 ^ 32 - 1 }
+{
+    saturated(count_of(item, stacks))
 }
 
 // A chain at its place.

@@ -1,9 +1,10 @@
 use crate::{
-    Act, Add, Adds, Item, ItemView, KeepKind, Padstack, Request, Stacks, copy_adds, shape_at,
-    shape_count, view, view_add, weight,
+    Act, Add, Adds, Entries, Entry, Item, ItemView, KeepKind, Padstack, Request, Stacks, is_fixed,
+    item_of_add, shape_at, shape_count, view, view_add, weight,
 };
 use area_geometry::{Core, Shape, Shapes};
 use layout_io::Name;
+use row_lists::Copied;
 use seg_geometry::{Points, Pt};
 use std::alloc::{AllocError, Global};
 use std::test::Fail;
@@ -37,6 +38,11 @@ fn items_and_adds_are_seen_as_they_are(rt: HostRuntime) -> Result<(), Fail> {
             points: two_points(rt.alloc())?,
         };
         assert_eq!(rt; view_add(&add).is_some(), there, "layer {layer}");
+        assert_eq!(rt;
+            item_of_add(&add)?.is_some(),
+            there,
+            "an item of its own on layer {layer}"
+        );
     }
     let item = Item::Wire {
         net: 3,
@@ -45,9 +51,7 @@ fn items_and_adds_are_seen_as_they_are(rt: HostRuntime) -> Result<(), Fail> {
         points: two_points(rt.alloc())?,
         fix: true,
     };
-    if let ItemView::Wire { net, fix, .. } = view(&item) {
-        assert_eq!(rt; (net, fix), (3, true));
-    }
+    assert!(rt; is_fixed(view(&item)), "a fixed wire");
     Ok(())
 }
 
@@ -95,28 +99,30 @@ fn acts_weigh_what_they_are(rt: HostRuntime) -> Result<(), Fail> {
         width: 250_000,
         points: two_points(alloc)?,
     })?;
-    assert_eq!(rt; copy_adds(alloc, &adds)?.len(), 1);
+    assert_eq!(rt; adds.copy()?.len(), 1, "copied adds");
     let request = Request::Entitle {
         fence: 1,
         client: 1,
     };
     let act = Act::Ask {
-        request: request.copy(alloc)?,
+        request: request.copied()?,
     };
-    assert_eq!(rt; (weight(&act), weight(&Act::Leave)), (3, 2));
+    assert_eq!(rt;
+        (weight(&act), weight(&Act::Leave)),
+        (3, 2),
+        "a copied request, and a leave"
+    );
+    let mut entries = Entries::new(alloc);
+    entries.push(Entry {
+        number: 1,
+        client: 1,
+        act,
+    })?;
+    assert_eq!(rt; entries.copy()?.get(0).client, 1, "a copied entry");
     let keep = Item::Keep {
         kind: KeepKind::Vias,
         shapes: Shapes::new(alloc),
     };
-    let same = keep.copy(alloc)?;
-    assert!(rt;
-        matches!(
-            view(&same),
-            ItemView::Keep {
-                kind: KeepKind::Vias,
-                ..
-            }
-        )
-    );
+    assert!(rt; is_fixed(view(&keep.copied()?)), "a copied keepout");
     Ok(())
 }

@@ -1,11 +1,13 @@
 //! Items that are borrowed.
-ghost use Rattle.std.specs.Prelude.{◌≡◌, ◌<◌, IfSome, IfNone};
-ghost use Rattle.board_items.specs.Adds.{layer_of_add, item_of_add, item_seen};
+ghost use Rattle.std.specs.Prelude.{◌≡◌, ◌≤◌, ◌<◌, IfSome, IfNone, IfOk};
+ghost use Rattle.board_items.specs.Adds.{layer_of_add, item_of_add, item_seen, is_fixed};
 
 use crate::items::{Item, KeepKind};
 use crate::requests::Add;
 use area_geometry::Shapes;
+use row_lists::Copied;
 use seg_geometry::Pt;
+use std::alloc::AllocError;
 
 /// A borrowed item, as `Item`.
 #[derive(Clone, Copy, Debug)]
@@ -97,5 +99,51 @@ pub fn view_add(add: &Add) -> Option<ItemView<'_>>
             at: *at,
             fix: false,
         }),
+    }
+}
+
+/// Whether the item can't be deleted: a pad, a keepout, or wiring that is marked so.
+pub fn is_fixed(item: ItemView<'_>) -> bool
+    ensures { result ≡ is_fixed (item_seen item.entry) }
+{
+    match item {
+        ItemView::Wire { fix, .. } => fix,
+        ItemView::Via { fix, .. } => fix,
+        ItemView::Pad { .. } => true,
+        ItemView::Keep { .. } => true,
+    }
+}
+
+/// The item that an add makes, which isn't fixed, as an item of its own; none where a wire's layer is above 255. Its
+/// one error is want of memory.
+pub fn item_of_add(add: &Add) -> Result<Option<Item>, AllocError>
+    ensures some { IfOk result (λ o. IfSome o (λ item. item ≡ item_of_add add.now)) }
+    ensures within { IfOk result (λ o. IfSome o (λ item. layer_of_add add.now ≤ 255)) }
+    ensures none { IfOk result (λ o. IfNone o (255 < layer_of_add add.now)) }
+{
+    match add {
+        Add::Wire {
+            net,
+            layer,
+            width,
+            points,
+        } => {
+            let Ok(layer) = u8::try_from(*layer) else {
+                return Ok(None);
+            };
+            Ok(Some(Item::Wire {
+                net: *net,
+                layer,
+                width: *width,
+                points: points.copied()?,
+                fix: false,
+            }))
+        }
+        Add::Via { net, padstack, at } => Ok(Some(Item::Via {
+            net: *net,
+            padstack: *padstack,
+            at: *at,
+            fix: false,
+        })),
     }
 }

@@ -1,4 +1,4 @@
-use Rattle.std.proofs.Common.{◌≡◌, ◌+◌, ◌≤◌, ◌*◌, drop, map, length}
+use Rattle.std.proofs.Common.{◌≡◌, ◌+◌, ◌≤◌, ◌*◌, drop, map}
 use Rattle.std.specs.List.{sum, AllByRecursion}
 use Rattle.board_items.specs.Formed.{IsFormedAdd}
 use Rattle.board_items.specs.Weights.{weight_of_add}
