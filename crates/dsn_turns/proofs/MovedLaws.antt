@@ -7,7 +7,7 @@ use Rattle.area_geometry.specs.declared.shapes.Core.{Core}
 use Rattle.area_geometry.specs.declared.shapes.Core.TheVariants.{Chain, Area}
 use Rattle.area_geometry.specs.declared.shapes.Shape.{Shape}
 use Rattle.area_geometry.specs.Copper.{is_area, core_points}
-use Rattle.dsn_turns.specs.declared.moves.Step.{Step}
+use Rattle.dsn_turns.specs.declared.moves.Motion.{Motion}
 use Rattle.dsn_turns.specs.Turning.{over_layer}
 use Rattle.dsn_turns.specs.Moves.{Leads, OneByOne, IsCoreMoved, IsMoved, AreMoved}
 
@@ -36,12 +36,12 @@ each_gives R Q h (x ∷ xs) (y ∷ ys) o = (h x y o.0, each_gives R Q h xs ys o.
 -- points
 
 -- a point in range is led to one in range
-pub leads_in_range : (steps : List Step) (p q : Pt) → IsInRange p → Leads steps p q → IsInRange q
+pub leads_in_range : (steps : List Motion) (p q : Pt) → IsInRange p → Leads steps p q → IsInRange q
 leads_in_range [] p q near l = subst IsInRange (sym l) near
 leads_in_range (s ∷ steps) p q near (r, step, rest) = leads_in_range steps r q step.move_in_range rest
 
 -- and any point is, by one step or more
-pub steps_in_range : (steps : List Step) (p q : Pt) → 0 < length steps → Leads steps p q → IsInRange q
+pub steps_in_range : (steps : List Motion) (p q : Pt) → 0 < length steps → Leads steps p q → IsInRange q
 steps_in_range [] p q some l = absurd (omega arith)
 steps_in_range (s ∷ steps) p q some (r, step, rest) = leads_in_range steps r q step.move_in_range rest
 
@@ -49,13 +49,13 @@ steps_in_range (s ∷ steps) p q some (r, step, rest) = leads_in_range steps r q
 abbrev pub IsCoreInRange : Core → Type 0
 IsCoreInRange core = AllByRecursion IsInRange (core_points core)
 
-pub core_in_range : (steps : List Step) (c d : Core) → IsCoreInRange c → IsCoreMoved steps c d → IsCoreInRange d
+pub core_in_range : (steps : List Motion) (c d : Core) → IsCoreInRange c → IsCoreMoved steps c d → IsCoreInRange d
 core_in_range steps (Chain points) (Chain places) near m = each_has (Leads steps) IsInRange IsInRange (leads_in_range steps) points places near m
 core_in_range steps (Chain points) (Area places) near m = absurd m
 core_in_range steps (Area points) (Chain places) near m = absurd m
 core_in_range steps (Area points) (Area places) near m = each_has (Leads steps) IsInRange IsInRange (leads_in_range steps) points places near m
 
-pub core_steps_in_range : (steps : List Step) (c d : Core) → 0 < length steps → IsCoreMoved steps c d → IsCoreInRange d
+pub core_steps_in_range : (steps : List Motion) (c d : Core) → 0 < length steps → IsCoreMoved steps c d → IsCoreInRange d
 core_steps_in_range steps (Chain points) (Chain places) some m = each_gives (Leads steps) IsInRange (λ p q l. steps_in_range steps p q some l) points places m
 core_steps_in_range steps (Chain points) (Area places) some m = absurd m
 core_steps_in_range steps (Area points) (Chain places) some m = absurd m
@@ -64,14 +64,14 @@ core_steps_in_range steps (Area points) (Area places) some m = each_gives (Leads
 -- cores
 
 -- a core keeps the number of its points
-pub same_count : (steps : List Step) (c d : Core) → IsCoreMoved steps c d → length (core_points d) ≡ length (core_points c)
+pub same_count : (steps : List Motion) (c d : Core) → IsCoreMoved steps c d → length (core_points d) ≡ length (core_points c)
 same_count steps (Chain points) (Chain places) m = same_length (Leads steps) points places m
 same_count steps (Chain points) (Area places) m = absurd m
 same_count steps (Area points) (Chain places) m = absurd m
 same_count steps (Area points) (Area places) m = same_length (Leads steps) points places m
 
 -- and its kind
-pub same_kind : (steps : List Step) (c d : Core) → IsCoreMoved steps c d → is_area d ≡ is_area c
+pub same_kind : (steps : List Motion) (c d : Core) → IsCoreMoved steps c d → is_area d ≡ is_area c
 same_kind steps (Chain points) (Chain places) m = refl
 same_kind steps (Chain points) (Area places) m = absurd m
 same_kind steps (Area points) (Chain places) m = absurd m
@@ -83,10 +83,10 @@ same_kind steps (Area points) (Area places) m = refl
 pub over_below : (n layer : ℕ) → layer < n → over_layer (Some n) layer < n
 over_below n layer h = omega arith
 
-pub layer_below : (steps : List Step) (n : ℕ) (s t : Shape) → s.layer < n → IsMoved steps (Some n) s t → t.layer < n
+pub layer_below : (steps : List Motion) (n : ℕ) (s t : Shape) → s.layer < n → IsMoved steps (Some n) s t → t.layer < n
 layer_below steps n s t h m = subst (λ (layer : ℕ). layer < n) (sym m.layer) (over_below n s.layer h)
 
-pub layer_kept : (steps : List Step) (n : ℕ) (s t : Shape) → s.layer < n → IsMoved steps None s t → t.layer < n
+pub layer_kept : (steps : List Motion) (n : ℕ) (s t : Shape) → s.layer < n → IsMoved steps None s t → t.layer < n
 layer_kept steps n s t h m = subst (λ (layer : ℕ). layer < n) (sym m.layer) h
 
 -- shapes
@@ -95,8 +95,8 @@ layer_kept steps n s t h m = subst (λ (layer : ℕ). layer < n) (sym m.layer) h
 abbrev pub IsShapeInRange : Shape → Type 0
 IsShapeInRange s = IsCoreInRange s.core
 
-pub shapes_in_range : (steps : List Step) (over : Option ℕ) (ss ts : List Shape) → AllByRecursion IsShapeInRange ss → AreMoved steps over ss ts → AllByRecursion IsShapeInRange ts
+pub shapes_in_range : (steps : List Motion) (over : Option ℕ) (ss ts : List Shape) → AllByRecursion IsShapeInRange ss → AreMoved steps over ss ts → AllByRecursion IsShapeInRange ts
 shapes_in_range steps over ss ts near m = each_has (IsMoved steps over) IsShapeInRange IsShapeInRange (λ s t p h. core_in_range steps s.core t.core p h.core) ss ts near m
 
-pub shapes_steps_in_range : (steps : List Step) (over : Option ℕ) (ss ts : List Shape) → 0 < length steps → AreMoved steps over ss ts → AllByRecursion IsShapeInRange ts
+pub shapes_steps_in_range : (steps : List Motion) (over : Option ℕ) (ss ts : List Shape) → 0 < length steps → AreMoved steps over ss ts → AllByRecursion IsShapeInRange ts
 shapes_steps_in_range steps over ss ts some m = each_gives (IsMoved steps over) IsShapeInRange (λ s t h. core_steps_in_range steps s.core t.core some h.core) ss ts m

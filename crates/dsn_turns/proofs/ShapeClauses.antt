@@ -3,17 +3,17 @@ use Rattle.std.proofs.Common.{◌≡◌, ℕ, suc, ◌+◌, ◌<◌, List, [], �
 use Rattle.std.proofs.lemmas.List.{append-nil}
 use Rattle.std.proofs.Math.Seq.{drop-cons}
 use Rattle.area_geometry.specs.declared.shapes.Shape.{Shape}
-use Rattle.dsn_turns.specs.declared.moves.Step.{Step}
+use Rattle.dsn_turns.specs.declared.moves.Motion.{Motion}
 use Rattle.dsn_turns.specs.Turning.{and_then, each_of, shapes_moved}
 use Rattle.dsn_turns.specs.Moves.{AreMoved}
 use Rattle.dsn_turns.proofs.Ranges.{found_of, none_of}
 use Rattle.dsn_turns.proofs.MoveLaws.{shapes_iff}
 
-pub are_found : {E : Type 0} (r : Result (Option (List Shape)) E) (steps : List Step) (over : Option ℕ) (ss : List Shape) → IfOk r (λ o. o ≡ shapes_moved steps over ss) → IfOk r (λ o. IfSome o (AreMoved steps over ss))
+pub are_found : {E : Type 0} (r : Result (Option (List Shape)) E) (steps : List Motion) (over : Option ℕ) (ss : List Shape) → IfOk r (λ o. o ≡ shapes_moved steps over ss) → IfOk r (λ o. IfSome o (AreMoved steps over ss))
 are_found (Ok o) steps over ss e = found_of o _ _ (shapes_iff steps over ss) e
 are_found (Err f) steps over ss e = tt
 
-pub none_found : {E : Type 0} (r : Result (Option (List Shape)) E) (steps : List Step) (over : Option ℕ) (ss : List Shape) → IfOk r (λ o. o ≡ shapes_moved steps over ss) → IfOk r (λ o. IfNone o ((ts : List Shape) → AreMoved steps over ss ts → ⊥))
+pub none_found : {E : Type 0} (r : Result (Option (List Shape)) E) (steps : List Motion) (over : Option ℕ) (ss : List Shape) → IfOk r (λ o. o ≡ shapes_moved steps over ss) → IfOk r (λ o. IfNone o ((ts : List Shape) → AreMoved steps over ss ts → ⊥))
 none_found (Ok o) steps over ss e = none_of o _ _ (shapes_iff steps over ss) e
 none_found (Err f) steps over ss e = tt
 

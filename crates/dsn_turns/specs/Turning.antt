@@ -1,13 +1,14 @@
 -- Points and shapes led through turns and moves, as the functions compute them.
 -- `IsTurned` and `AreMoved` say where they come to lie; `proofs/` has the bridge, both ways.
 use Rattle.std.specs.Prelude.{ℕ, zero, suc, ◌-◌, ◌*◌, ◌/◌, ◌%◌, nat_le, ◌==◌, Bool, ◌&&◌, ℤ, pos, negsuc, neg_ℤ, ◌+ℤ◌, ◌-ℤ◌, unsigned_abs, List, [], ◌∷◌, Option, Some, None, if◌then◌else◌}
+use Rattle.row_lists.specs.Limits.{coordinate_limit_nm}
 use Rattle.seg_geometry.specs.declared.points.Pt.{Pt}
 use Rattle.area_geometry.specs.declared.shapes.Core.{Core}
 use Rattle.area_geometry.specs.declared.shapes.Core.TheVariants.{Chain, Area}
 use Rattle.area_geometry.specs.declared.shapes.Shape.{Shape}
 use Rattle.area_geometry.specs.Copper.{moved}
 use Rattle.dsn_turns.specs.declared.turns.Flip.{Flip}
-use Rattle.dsn_turns.specs.declared.moves.Step.{Step}
+use Rattle.dsn_turns.specs.declared.moves.Motion.{Motion}
 use Rattle.dsn_turns.specs.Turns.{quarters, flipped_before, flipped_after}
 
 -- the greatest number up to a limit with twice its square at most d²
@@ -38,7 +39,7 @@ turned p e flip = flipped_after flip (quarters (e / 2) (begun e (flipped_before 
 
 -- neither coordinate is more than 1,000,000,000 nm from 0
 abbrev pub is_within : Pt → Bool
-is_within p = nat_le (unsigned_abs p.x) 1000000000 && nat_le (unsigned_abs p.y) 1000000000
+is_within p = nat_le (unsigned_abs p.x) coordinate_limit_nm && nat_le (unsigned_abs p.y) coordinate_limit_nm
 
 -- the point where it is in range
 unfoldable pub within : Pt → Option Pt
@@ -59,11 +60,11 @@ each_of f [] = Some []
 each_of f (x ∷ xs) = and_then (f x) (λ y. and_then (each_of f xs) (λ ys. Some (y ∷ ys)))
 
 -- the point after a turn and the move behind it, where each is in range
-unfoldable pub step_of : Step → Pt → Option Pt
+unfoldable pub step_of : Motion → Pt → Option Pt
 step_of s p = and_then (turn_of p s.eighths s.flip) (λ q. within (moved s.by q))
 
 -- the point after the steps in order
-unfoldable pub through : List Step → Pt → Option Pt
+unfoldable pub through : List Motion → Pt → Option Pt
 through [] p = Some p
 through (s ∷ steps) p = and_then (step_of s p) (through steps)
 
@@ -73,14 +74,14 @@ over_layer None layer = layer
 over_layer (Some n) layer = n - 1 - layer
 
 -- the core after the steps
-abbrev pub core_moved : List Step → Core → Option Core
+abbrev pub core_moved : List Motion → Core → Option Core
 core_moved steps (Chain points) = and_then (each_of (through steps) points) (λ moved. Some (Chain moved))
 core_moved steps (Area points) = and_then (each_of (through steps) points) (λ moved. Some (Area moved))
 
 -- the shape after the steps
-unfoldable pub shape_moved : List Step → Option ℕ → Shape → Option Shape
+unfoldable pub shape_moved : List Motion → Option ℕ → Shape → Option Shape
 shape_moved steps over s = and_then (core_moved steps s.core) (λ core. Some (record { layer = over_layer over s.layer; core = core; width = s.width }))
 
 -- the shapes after the steps
-abbrev pub shapes_moved : List Step → Option ℕ → List Shape → Option (List Shape)
+abbrev pub shapes_moved : List Motion → Option ℕ → List Shape → Option (List Shape)
 shapes_moved steps over shapes = each_of (shape_moved steps over) shapes

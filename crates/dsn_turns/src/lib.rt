@@ -4,7 +4,7 @@
 mod moves;
 mod turns;
 
-pub use moves::{Step, moved_shapes};
+pub use moves::{Motion, moved_shapes};
 pub use turns::{Flip, turn};
 
 #[cfg(test)]

@@ -13,7 +13,7 @@ use std::alloc::{AllocError, Global};
 
 /// A turn, and a move behind it.
 #[derive(Clone, Copy, Debug)]
-pub struct Step {
+pub struct Motion {
     /// By how many eighths of a turn.
     pub eighths: u8,
     pub flip: Flip,
@@ -33,7 +33,7 @@ fn sum_of(p: Pt, by: Pt) -> Wide
 
 // The point after a step, where it is in range after the turn and after the move.
 #[tactic(auto, unfolding(crate::specs::Turning::step_of))]
-fn stepped(step: Step, p: Pt) -> Option<Pt>
+fn stepped(step: Motion, p: Pt) -> Option<Pt>
     ensures { result ≡ step_of step p }
 {
     let turned = turn(p, step.eighths, step.flip)?;
@@ -42,7 +42,7 @@ fn stepped(step: Step, p: Pt) -> Option<Pt>
 
 // The point after the steps in order.
 #[tactic(auto, unfolding(crate::specs::Turning::through))]
-fn led(steps: &[Step], p: Pt) -> Option<Pt>
+fn led(steps: &[Motion], p: Pt) -> Option<Pt>
     ensures { result ≡ through steps.now p }
 {
     let mut place = p;
@@ -53,7 +53,7 @@ fn led(steps: &[Step], p: Pt) -> Option<Pt>
 }
 
 // The points after the steps, in the same order.
-fn led_points(alloc: Global, steps: &[Step], points: &[Pt]) -> Result<Option<Points>, AllocError>
+fn led_points(alloc: Global, steps: &[Motion], points: &[Pt]) -> Result<Option<Points>, AllocError>
     ensures { IfOk result (λ r. r ≡ each_of (through steps.now) points.now) }
 {
     let mut places = Points::new(alloc);
@@ -67,7 +67,7 @@ fn led_points(alloc: Global, steps: &[Step], points: &[Pt]) -> Result<Option<Poi
 }
 
 // The core after the steps.
-fn led_core(alloc: Global, steps: &[Step], core: &Core) -> Result<Option<Core>, AllocError>
+fn led_core(alloc: Global, steps: &[Motion], core: &Core) -> Result<Option<Core>, AllocError>
     ensures { IfOk result (λ r. r ≡ core_moved steps.now core.now) }
 {
     match core {
@@ -90,7 +90,7 @@ fn layer_over(over: Option<u8>, layer: u8) -> u8
 #[tactic(auto, unfolding(crate::specs::Turning::shape_moved))]
 fn led_shape(
     alloc: Global,
-    steps: &[Step],
+    steps: &[Motion],
     over: Option<u8>,
     shape: &Shape,
 ) -> Result<Option<Shape>, AllocError>
@@ -109,7 +109,7 @@ fn led_shape(
 // The shapes after the steps, in the same order.
 fn led_shapes(
     alloc: Global,
-    steps: &[Step],
+    steps: &[Motion],
     over: Option<u8>,
     shapes: &[Shape],
 ) -> Result<Option<Shapes>, AllocError>
@@ -130,7 +130,7 @@ fn led_shapes(
 /// becomes that number less 1 less i, or 0 where that is below 0. Its one error is want of memory.
 pub fn moved_shapes(
     alloc: Global,
-    steps: &[Step],
+    steps: &[Motion],
     over: Option<u8>,
     shapes: &[Shape],
 ) -> Result<Option<Shapes>, AllocError>

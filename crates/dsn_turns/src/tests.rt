@@ -1,6 +1,6 @@
 //! Turns and moves that were worked by hand.
 
-use crate::{Flip, Step, moved_shapes, turn};
+use crate::{Flip, Motion, moved_shapes, turn};
 use area_geometry::{Core, Shape, Shapes};
 use seg_geometry::{Points, Pt};
 use std::alloc::{AllocError, Global};
@@ -119,12 +119,12 @@ fn chain_of(shape: &Shape) -> Option<&[Pt]> {
 fn shapes_are_led_through_two_steps(rt: HostRuntime) -> Result<(), Fail> {
     let shapes = square_and_wire(rt.alloc())?;
     let steps = [
-        Step {
+        Motion {
             eighths: 2,
             flip: Flip::Plain,
             by: pt(10, 20),
         },
-        Step {
+        Motion {
             eighths: 0,
             flip: Flip::After,
             by: pt(0, 5),
@@ -146,7 +146,7 @@ fn shapes_are_led_through_two_steps(rt: HostRuntime) -> Result<(), Fail> {
     Ok(())
 }
 
-fn is_led(alloc: Global, steps: &[Step], p: Pt) -> Result<bool, AllocError> {
+fn is_led(alloc: Global, steps: &[Motion], p: Pt) -> Result<bool, AllocError> {
     let mut shapes = Shapes::new(alloc);
     shapes.push(Shape {
         layer: 0,
@@ -159,7 +159,7 @@ fn is_led(alloc: Global, steps: &[Step], p: Pt) -> Result<bool, AllocError> {
 #[test]
 fn a_point_out_of_range_on_the_way_is_refused(rt: HostRuntime) -> Result<(), Fail> {
     let most = 1_000_000_000;
-    let step = |eighths: u8, x: i64, y: i64| Step {
+    let step = |eighths: u8, x: i64, y: i64| Motion {
         eighths,
         flip: Flip::Plain,
         by: Pt { x, y },

@@ -6,10 +6,11 @@ ghost use Rattle.dsn_turns.specs.Turns.{quarters, flipped_before, flipped_after,
 ghost use Rattle.dsn_turns.specs.Turning.{size_root, root_of, begun, turned, within, turn_of};
 ghost use Rattle.dsn_turns.specs.Wides.{point_of, IsAtMost};
 
+use row_lists::COORDINATE_LIMIT_NM;
 use seg_geometry::Pt;
 
 /// How far a coordinate may be from 0, in nanometres.
-const LIMIT_NM: u128 = 1_000_000_000;
+const LIMIT_NM: u128 = COORDINATE_LIMIT_NM as u128;
 
 /// Whether a part is mirrored, and whether that comes before its turn or after it.
 #[derive(Clone, Copy, Debug, PartialEq, Eq)]

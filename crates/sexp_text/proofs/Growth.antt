@@ -4,10 +4,10 @@ use Rattle.std.proofs.lemmas.List.{length-take}
 use Rattle.std.proofs.Common.{length-drop}
 use Rattle.sexp_text.specs.Forest.{Forest, End, Word, Branch}
 use Rattle.sexp_text.specs.Shows.{grown}
-use Rattle.sexp_text.specs.declared.cursor.Entry.{Entry}
-use Rattle.sexp_text.specs.declared.cursor.Entry.TheVariants as entries
+use Rattle.sexp_text.specs.declared.cursor.TreeEntry.{TreeEntry}
+use Rattle.sexp_text.specs.declared.cursor.TreeEntry.TheVariants as entries
 
-pub grown-enough : (n m : ℕ) (text : List ℕ) (es : List Entry) → length es ≤ n → length es ≤ m → grown n text es ≡ grown m text es
+pub grown-enough : (n m : ℕ) (text : List ℕ) (es : List TreeEntry) → length es ≤ n → length es ≤ m → grown n text es ≡ grown m text es
 unfolding grown
 grown-enough zero zero text es p q = refl
 grown-enough zero (suc m) text [] p q = refl
@@ -22,15 +22,15 @@ grown-enough (suc n) (suc m) text (entries.List last at inside ∷ es) p q =
     let b = grown-enough n m text (drop (min inside (length es)) es) (omega (arith, length-drop (min inside (length es)) es)) (omega (arith, length-drop (min inside (length es)) es)) in
     ap (λ (f : Forest). Branch at f (grown n text (drop (min inside (length es)) es))) a ∙ ap (λ (f : Forest). Branch at (grown m text (take (min inside (length es)) es)) f) b
 
-pub at_end : (text : List ℕ) (es : List Entry) → es ≡ [] → grown (length es) text es ≡ End
+pub at_end : (text : List ℕ) (es : List TreeEntry) → es ≡ [] → grown (length es) text es ≡ End
 unfolding grown
 at_end text es e = rw e refl
 
-pub at_word : (text : List ℕ) (es rest : List Entry) (last : Bool) (at start end : ℕ) → es ≡ entries.Word last at start end ∷ rest → grown (length es) text es ≡ Word at (take (end - start) (drop start text)) (grown (length rest) text rest)
+pub at_word : (text : List ℕ) (es rest : List TreeEntry) (last : Bool) (at start end : ℕ) → es ≡ entries.Word last at start end ∷ rest → grown (length es) text es ≡ Word at (take (end - start) (drop start text)) (grown (length rest) text rest)
 unfolding grown
 at_word text es rest last at start end e = rw e refl
 
-pub at_list : (text : List ℕ) (es rest front back : List Entry) (last : Bool) (at inside : ℕ) → es ≡ entries.List last at inside ∷ rest → front ≡ take (min inside (length rest)) rest → back ≡ drop (min inside (length rest)) rest
+pub at_list : (text : List ℕ) (es rest front back : List TreeEntry) (last : Bool) (at inside : ℕ) → es ≡ entries.List last at inside ∷ rest → front ≡ take (min inside (length rest)) rest → back ≡ drop (min inside (length rest)) rest
     → grown (length es) text es ≡ Branch at (grown (length front) text front) (grown (length back) text back)
 unfolding grown
 at_list text es rest front back last at inside e f b =

@@ -8,6 +8,7 @@ pub mod Readings
 pub mod Parts
 pub mod Found
 pub mod Quotes
+pub mod Bulk
 pub mod Lexing
 pub mod Clauses
 pub mod Forests

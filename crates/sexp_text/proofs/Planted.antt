@@ -6,8 +6,8 @@ use Rattle.sexp_text.specs.declared.fault.TextFault.{TextFault}
 use Rattle.sexp_text.specs.declared.token.Token.{Token}
 use Rattle.sexp_text.specs.declared.token.TokenKind.{TokenKind}
 use Rattle.sexp_text.specs.declared.token.TokenKind.TheVariants as kind
-use Rattle.sexp_text.specs.declared.cursor.Entry.{Entry}
-use Rattle.sexp_text.specs.declared.cursor.Entry.TheVariants as entries
+use Rattle.sexp_text.specs.declared.cursor.TreeEntry.{TreeEntry}
+use Rattle.sexp_text.specs.declared.cursor.TreeEntry.TheVariants as entries
 use Rattle.sexp_text.specs.declared.builder.Builder.{Builder}
 use Rattle.sexp_text.specs.Tree.{text_of, HasForest}
 use Rattle.sexp_text.specs.Build.{◌>>=◌, base, put_left, put_word, put, build}
@@ -20,7 +20,7 @@ word_slice pool word =
     let e : length pool + length word - length pool ≡ length word = omega arith in
     ap (λ (n : ℕ). take n (drop (length pool) (pool ++ word))) e ∙ ap (λ (x : List ℕ). take (length word) x) (drop-append_seam pool word) ∙ take-length word
 
-stacked_word : (pool word : List ℕ) (at : ℕ) (f : Forest) (fs : List Forest) (marks : List ℕ) (es : List Entry) → Stacked pool (f ∷ fs) marks es
+stacked_word : (pool word : List ℕ) (at : ℕ) (f : Forest) (fs : List Forest) (marks : List ℕ) (es : List TreeEntry) → Stacked pool (f ∷ fs) marks es
     → Stacked (pool ++ word) (Word at word f ∷ fs) marks (entries.Word (is_end f) at (length pool) (length pool + length word) ∷ es)
 stacked_word pool word at f [] marks es h =
     (h.0, (length pool, length pool + length word, es, refl, omega arith, omega (arith, length-append pool word), word_slice pool word, lays_more pool word f es h.1))
@@ -28,20 +28,20 @@ stacked_word pool word at f (g ∷ fs) marks es h = (
   entries.Word (is_end f) at (length pool) (length pool + length word) ∷ h.0,
   h.1,
   h.2,
-  ap (λ (x : List Entry). entries.Word (is_end f) at (length pool) (length pool + length word) ∷ x) h.3,
+  ap (λ (x : List TreeEntry). entries.Word (is_end f) at (length pool) (length pool + length word) ∷ x) h.3,
   h.4,
   (length pool, length pool + length word, h.0, refl, omega arith, omega (arith, length-append pool word), word_slice pool word, lays_more pool word f h.0 h.5),
   stacked_more pool word (g ∷ fs) h.2 h.1 h.6,
 )
 
-stacked_left : (pool : List ℕ) (at : ℕ) (f g : Forest) (fs : List Forest) (segment below : List Entry) (ms : List ℕ) → Lays pool f segment → Stacked pool (g ∷ fs) ms below
+stacked_left : (pool : List ℕ) (at : ℕ) (f g : Forest) (fs : List Forest) (segment below : List TreeEntry) (ms : List ℕ) → Lays pool f segment → Stacked pool (g ∷ fs) ms below
     → Stacked pool (Branch at f g ∷ fs) ms (entries.List (is_end g) at (length segment) ∷ (segment ++ below))
 stacked_left pool at f g [] segment below ms h k = (k.0, (segment, below, refl, h, k.1))
 stacked_left pool at f g (x ∷ xs) segment below ms h k = (
   entries.List (is_end g) at (length segment) ∷ (segment ++ k.0),
   k.1,
   k.2,
-  ap (λ (y : List Entry). entries.List (is_end g) at (length segment) ∷ y) (ap (λ (y : List Entry). segment ++ y) k.3 ∙ sym (append_assoc segment k.0 k.1)),
+  ap (λ (y : List TreeEntry). entries.List (is_end g) at (length segment) ∷ y) (ap (λ (y : List TreeEntry). segment ++ y) k.3 ∙ sym (append_assoc segment k.0 k.1)),
   k.4,
   (segment, k.0, refl, h, k.5),
   k.6,
@@ -82,7 +82,7 @@ grows_left b at word f g fs h =
       built = ap (λ (m : List ℕ). put_left b at m) h.4;
       stacked = subst (λ (l : Bool). Stacked b.pool (Branch at f g ∷ fs) ms (entries.List l at (length b.entries - length below) ∷ b.entries)) (sym (last_test b.pool g fs ms below h.6))
           (subst (λ (n : ℕ). Stacked b.pool (Branch at f g ∷ fs) ms (entries.List (is_end g) at n ∷ b.entries)) (sym count)
-          (subst (λ (x : List Entry). Stacked b.pool (Branch at f g ∷ fs) ms (entries.List (is_end g) at (length segment) ∷ x)) (sym h.3) laid));
+          (subst (λ (x : List TreeEntry). Stacked b.pool (Branch at f g ∷ fs) ms (entries.List (is_end g) at (length segment) ∷ x)) (sym h.3) laid));
     }
 
 keeps : (r : Result Builder TextFault) → r ≡ (r >>= λ c. Ok c)

@@ -8,7 +8,7 @@ use Rattle.sexp_text.specs.declared.fault.TextFault.{TextFault}
 use Rattle.sexp_text.specs.declared.fault.TextFault.TheVariants as faults
 use Rattle.sexp_text.specs.declared.token.Token.{Token}
 use Rattle.sexp_text.specs.declared.token.TokenKind.TheVariants as kind
-use Rattle.sexp_text.specs.declared.cursor.Entry.{Entry}
+use Rattle.sexp_text.specs.declared.cursor.TreeEntry.{TreeEntry}
 use Rattle.sexp_text.specs.declared.builder.Builder.{Builder}
 use Rattle.sexp_text.specs.Tree.{text_of, HasForest, depth, HasOpened}
 use Rattle.sexp_text.specs.Build.{◌>>=◌, put_left, put, levels, build, nothing_read, built_forest, no_quote, planted}
@@ -32,13 +32,13 @@ none_grown zero pool = refl
 none_grown (suc n) pool = refl
 
 -- the forest of the entries of a forest is that forest
-pub laid_forest : (f : Forest) (n : ℕ) (pool : List ℕ) (es : List Entry) → Lays pool f es → length es ≤ n → grown n pool es ≡ f
+pub laid_forest : (f : Forest) (n : ℕ) (pool : List ℕ) (es : List TreeEntry) → Lays pool f es → length es ≤ n → grown n pool es ≡ f
 unfolding grown
-laid_forest End n pool es h b = ap (λ (x : List Entry). grown n pool x) h ∙ none_grown n pool
+laid_forest End n pool es h b = ap (λ (x : List TreeEntry). grown n pool x) h ∙ none_grown n pool
 laid_forest (Word at word rest) zero pool es h b = let e = ap length h.3 in absurd (omega (arith, e, b))
 laid_forest (Word at word rest) (suc n) pool es h b =
     let l : length h.2 ≤ n = (let e = ap length h.3 in omega (arith, e, b)) in
-    ap (λ (x : List Entry). grown (suc n) pool x) h.3 ∙ ap (λ (w : List ℕ). Word at w (grown n pool h.2)) h.6 ∙ ap (λ (f : Forest). Word at word f) (laid_forest rest n pool h.2 h.7 l)
+    ap (λ (x : List TreeEntry). grown (suc n) pool x) h.3 ∙ ap (λ (w : List ℕ). Word at w (grown n pool h.2)) h.6 ∙ ap (λ (f : Forest). Word at word f) (laid_forest rest n pool h.2 h.7 l)
 laid_forest (Branch at inside rest) zero pool es h b = let e = ap length h.2 in absurd (omega (arith, e, b))
 laid_forest (Branch at inside rest) (suc n) pool es h b =
     let e = ap length h.2 in
@@ -46,10 +46,10 @@ laid_forest (Branch at inside rest) (suc n) pool es h b =
     let li : length h.0 ≤ n = omega (arith, e, a, b) in
     let lr : length h.1 ≤ n = omega (arith, e, a, b) in
     let m : min (length h.0) (length (h.0 ++ h.1)) ≡ length h.0 = omega (arith, a) in
-    ap (λ (x : List Entry). grown (suc n) pool x) h.2
+    ap (λ (x : List TreeEntry). grown (suc n) pool x) h.2
     ∙ ap (λ (k : ℕ). Branch at (grown n pool (take k (h.0 ++ h.1))) (grown n pool (drop k (h.0 ++ h.1)))) m
-    ∙ ap (λ (x : List Entry). Branch at (grown n pool x) (grown n pool (drop (length h.0) (h.0 ++ h.1)))) (take-append_seam h.0 h.1)
-    ∙ ap (λ (x : List Entry). Branch at (grown n pool h.0) (grown n pool x)) (drop-append_seam h.0 h.1)
+    ∙ ap (λ (x : List TreeEntry). Branch at (grown n pool x) (grown n pool (drop (length h.0) (h.0 ++ h.1)))) (take-append_seam h.0 h.1)
+    ∙ ap (λ (x : List TreeEntry). Branch at (grown n pool h.0) (grown n pool x)) (drop-append_seam h.0 h.1)
     ∙ ap (λ (f : Forest). Branch at f (grown n pool h.1)) (laid_forest inside n pool h.0 h.3 li)
     ∙ ap (λ (f : Forest). Branch at inside f) (laid_forest rest n pool h.1 h.4 lr)
 

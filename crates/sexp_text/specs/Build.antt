@@ -1,5 +1,6 @@
 -- How a tree is read from tokens: the levels from the left, and the entries from the right.
 use Rattle.std.specs.Prelude.{ℕ, ◌+◌, ◌-◌, ◌==◌, nat_lt, Bool, List, [], ◌∷◌, ◌++◌, length, Option, Some, None, Result, Ok, Err, if◌then◌else◌}
+use Rattle.row_lists.specs.Limits.{nesting_limit_levels}
 use Rattle.sexp_text.specs.Forest.{Forest}
 use Rattle.sexp_text.specs.declared.fault.TextFault.{TextFault}
 use Rattle.sexp_text.specs.declared.fault.TextFault.TheVariants as faults
@@ -8,7 +9,7 @@ use Rattle.sexp_text.specs.declared.token.TokenKind.{TokenKind}
 use Rattle.sexp_text.specs.declared.token.TokenKind.TheVariants as kind
 use Rattle.sexp_text.specs.declared.modes.Before.TheVariants.{Other}
 use Rattle.sexp_text.specs.declared.modes.Mode.TheVariants as mode
-use Rattle.sexp_text.specs.declared.cursor.Entry.TheVariants as entries
+use Rattle.sexp_text.specs.declared.cursor.TreeEntry.TheVariants as entries
 use Rattle.sexp_text.specs.declared.builder.Builder.{Builder}
 use Rattle.sexp_text.specs.Scan.{scan}
 use Rattle.sexp_text.specs.Tree.{text_of}
@@ -18,7 +19,7 @@ pub use Rattle.sexp_text.specs.Results.{◌>>=◌}
 -- how many lists are open behind a token
 abbrev pub level_step : ℕ → TokenKind → ℕ → Result ℕ TextFault
 level_step level kind.Word at = Ok level
-level_step level kind.Left at = if nat_lt level 64 then Ok (level + 1) else Err (faults.Deep at)
+level_step level kind.Left at = if nat_lt level nesting_limit_levels then Ok (level + 1) else Err (faults.Deep at)
 level_step level kind.Right at = if level == 0 then Err (faults.Unopened at) else Ok (level - 1)
 
 -- how many lists are open behind tokens, or the first bracket that is too many
@@ -54,6 +55,15 @@ put kind.Left at word b = put_left b at b.marks
 unfoldable pub build : List ℕ → List Token → Builder → Result Builder TextFault
 build text [] b = Ok b
 build text (t ∷ ts) b = build text ts b >>= put t.kind t.start (text_of text t)
+
+-- how many bytes tokens have, and 1 more for each of them
+abbrev pub bulk : List Token → ℕ
+bulk [] = 0
+bulk (t ∷ ts) = (t.end - t.start) + 1 + bulk ts
+
+-- how many bytes of words and how many entries there are
+abbrev pub amount : Builder → ℕ
+amount b = length b.pool + length b.entries
 
 -- no token was read yet
 abbrev pub nothing_read : Builder

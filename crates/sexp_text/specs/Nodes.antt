@@ -3,8 +3,8 @@
 use Rattle.std.specs.Prelude.{◌≡◌, ℕ, ◌+◌, ◌-◌, ◌==◌, nat_lt, ◌≤◌, Bool, true, false, List, [], ◌∷◌, ◌++◌, take, drop, length, Option, Some, None, if◌then◌else◌}
 use Rattle.sexp_text.specs.Shows.{grown}
 use Rattle.sexp_text.specs.Forest.{Forest, End, Word, Branch}
-use Rattle.sexp_text.specs.declared.cursor.Entry.{Entry}
-use Rattle.sexp_text.specs.declared.cursor.Entry.TheVariants as entries
+use Rattle.sexp_text.specs.declared.cursor.TreeEntry.{TreeEntry}
+use Rattle.sexp_text.specs.declared.cursor.TreeEntry.TheVariants as entries
 
 -- how many lists and words there are
 abbrev pub size : Forest → ℕ
@@ -26,19 +26,19 @@ from n (Branch at inside rest) = if n == 0 then Branch at inside rest else
     if nat_lt (n - 1) (size inside) then from (n - 1) inside else from (n - 1 - size inside) rest
 
 -- these entries lie for the forest: each list knows how many stand within it, and each knows whether it is the last
-abbrev pub Lays : List ℕ → Forest → List Entry → Type 0
+abbrev pub Lays : List ℕ → Forest → List TreeEntry → Type 0
 Lays pool End es = es ≡ []
 Lays pool (Word at word rest) es =
-    (start : ℕ) × (end : ℕ) × (more : List Entry) × (es ≡ entries.Word (is_end rest) at start end ∷ more) × (start ≤ end) × (end ≤ length pool) × (take (end - start) (drop start pool) ≡ word) × Lays pool rest more
+    (start : ℕ) × (end : ℕ) × (more : List TreeEntry) × (es ≡ entries.Word (is_end rest) at start end ∷ more) × (start ≤ end) × (end ≤ length pool) × (take (end - start) (drop start pool) ≡ word) × Lays pool rest more
 Lays pool (Branch at inside rest) es =
-    (within : List Entry) × (more : List Entry) × (es ≡ entries.List (is_end rest) at (length within) ∷ (within ++ more)) × Lays pool inside within × Lays pool rest more
+    (within : List TreeEntry) × (more : List TreeEntry) × (es ≡ entries.List (is_end rest) at (length within) ∷ (within ++ more)) × Lays pool inside within × Lays pool rest more
 
 -- the entries lie for the forest that they are read as
-abbrev pub IsLaid : List ℕ → List Entry → Type 0
+abbrev pub IsLaid : List ℕ → List TreeEntry → Type 0
 IsLaid pool es = Lays pool (grown (length es) pool es) es
 
 -- how an entry, the n-th of so many, stands for what begins there
-abbrev pub Fits : List ℕ → Entry → ℕ → ℕ → Forest → Type 0
+abbrev pub Fits : List ℕ → TreeEntry → ℕ → ℕ → Forest → Type 0
 Fits pool e n count End = ⊥
 Fits pool (entries.Word last at start end) n count (Word a word rest) = (at ≡ a) × (last ≡ is_end rest) × (take (end - start) (drop start pool) ≡ word)
 Fits pool (entries.Word last at start end) n count (Branch a inside rest) = ⊥

@@ -1,14 +1,14 @@
 -- How entries stand for a tree.
 use Rattle.std.specs.Prelude.{◌≡◌, ℕ, zero, suc, ◌-◌, List, [], ◌∷◌, take, drop, length, min, ◌<◌}
 use Rattle.sexp_text.specs.Forest.{Forest, End, Word, Branch}
-use Rattle.sexp_text.specs.declared.cursor.Entry.{Entry}
-use Rattle.sexp_text.specs.declared.cursor.Entry.TheVariants as entries
+use Rattle.sexp_text.specs.declared.cursor.TreeEntry.{TreeEntry}
+use Rattle.sexp_text.specs.declared.cursor.TreeEntry.TheVariants as entries
 use Rattle.sexp_text.specs.declared.cursor.Cursor.{Cursor}
 use Rattle.sexp_text.specs.declared.cursor.Part.{Part}
 use Rattle.sexp_text.specs.declared.cursor.Part.TheVariants as parts
 
 -- the forest of at most so many entries
-unfoldable pub grown : ℕ → List ℕ → List Entry → Forest
+unfoldable pub grown : ℕ → List ℕ → List TreeEntry → Forest
 grown zero text es = End
 grown (suc n) text [] = End
 grown (suc n) text (entries.Word last at start end ∷ es) = Word at (take (end - start) (drop start text)) (grown n text es)

@@ -2,6 +2,7 @@
 -- Cited by: `read_tree`.
 use Rattle.std.specs.Prelude.{◌≡◌, ℕ, ◌+◌, ◌-◌, ◌≤◌, max, List, [], ◌∷◌, ◌++◌, length, take, drop, if◌then◌else◌}
 use Rattle.std.specs.Str.{bytes_eq}
+use Rattle.row_lists.specs.Limits.{nesting_limit_levels}
 use Rattle.sexp_text.specs.Forest.{Forest, End, Word, Branch}
 use Rattle.sexp_text.specs.declared.fault.TextFault.{TextFault}
 use Rattle.sexp_text.specs.declared.fault.TextFault.TheVariants as faults
@@ -41,7 +42,7 @@ pub record IsTree (text : List ℕ) (f : Forest) : Type 0 where
   pub tokens : List Token
   pub spelled : HasTokens text tokens
   pub shape : HasForest text tokens f
-  pub levels : depth f ≤ 64
+  pub levels : depth f ≤ nesting_limit_levels
 
 -- a list that is open: what stands before its bracket, its bracket, and the forest behind it
 pub record HasOpen (text : List ℕ) (ts : List Token) (at : ℕ) (f : Forest) (before : List Token) : Type 0 where
@@ -54,8 +55,8 @@ pub record HasOpen (text : List ℕ) (ts : List Token) (at : ℕ) (f : Forest) (
 
 -- the tokens are whole words and lists, and lists that are open at these bytes, the innermost first, all in 64 levels
 abbrev pub HasOpened : List ℕ → List Token → List ℕ → Type 0
-HasOpened text ts [] = (f : Forest) × HasForest text ts f × (depth f ≤ 64)
-HasOpened text ts (at ∷ opens) = (before : List Token) × (f : Forest) × HasOpen text ts at f before × (length opens + 1 + depth f ≤ 64) × HasOpened text before opens
+HasOpened text ts [] = (f : Forest) × HasForest text ts f × (depth f ≤ nesting_limit_levels)
+HasOpened text ts (at ∷ opens) = (before : List Token) × (f : Forest) × HasOpen text ts at f before × (length opens + 1 + depth f ≤ nesting_limit_levels) × HasOpened text before opens
 
 -- the next token is of this kind, at this byte
 abbrev pub NextIs : TokenKind → ℕ → Before → ℕ → List ℕ → Type 0
@@ -65,7 +66,7 @@ NextIs k at before p text = (t : Token) × (bytes : List ℕ) × (rest : List �
 -- end, the innermost list that is open.
 abbrev pub IsFirstFault : List ℕ → TextFault → Type 0
 IsFirstFault text (faults.Quote at) = (ts : List Token) × (opens : List ℕ) × TokensThen (BreaksAt at) Other 0 ts text × HasOpened text ts opens
-IsFirstFault text (faults.Deep at) = (ts : List Token) × (opens : List ℕ) × TokensThen (NextIs kind.Left at) Other 0 ts text × HasOpened text ts opens × (length opens ≡ 64)
+IsFirstFault text (faults.Deep at) = (ts : List Token) × (opens : List ℕ) × TokensThen (NextIs kind.Left at) Other 0 ts text × HasOpened text ts opens × (length opens ≡ nesting_limit_levels)
 IsFirstFault text (faults.Unopened at) = (ts : List Token) × TokensThen (NextIs kind.Right at) Other 0 ts text × HasOpened text ts []
 IsFirstFault text (faults.Unclosed at) = (ts : List Token) × (opens : List ℕ) × HasTokens text ts × HasOpened text ts (at ∷ opens)
 IsFirstFault text faults.Memory = ⊥

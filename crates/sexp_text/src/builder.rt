@@ -1,12 +1,12 @@
 //! The entries of a tree, put in from the right.
-ghost use Rattle.std.specs.Prelude.{◌≡◌, ◌++◌, ◌∷◌, [], Ok, Bool, length, IfOk, OnOk, is_ok, if◌then◌else◌};
+ghost use Rattle.std.specs.Prelude.{◌≡◌, ◌+◌, ◌-◌, ◌^◌, ◌<◌, ◌++◌, ◌∷◌, [], Ok, Bool, length, IfOk, OnOk, is_ok, if◌then◌else◌};
 ghost use Rattle.sexp_text.specs.declared.builder.Builder.{Builder};
 ghost use Rattle.sexp_text.specs.Scan.{Gives};
 ghost use Rattle.sexp_text.specs.Words.{unquoted};
 ghost use Rattle.sexp_text.specs.Tree.{word_text, text_of};
-ghost use Rattle.sexp_text.specs.Build.{base, at_last, put_left, put_word, put, build, nothing_read};
+ghost use Rattle.sexp_text.specs.Build.{base, at_last, put_left, put_word, put, build, bulk, amount, nothing_read};
 
-use crate::cursor::{Entry, piece};
+use crate::cursor::{TreeEntry, piece};
 use crate::fault::TextFault;
 use crate::pile::Pile;
 use crate::token::{Token, TokenKind};
@@ -18,18 +18,8 @@ use std::alloc::{AllocError, Global};
 #[derive(Drop)]
 pub struct Builder {
     pub pool: Row<u8>,
-    pub entries: Pile<Entry>,
+    pub entries: Pile<TreeEntry>,
     pub marks: Pile<u32>,
-}
-
-// A count of bytes or entries. No text of the permitted length has too many.
-pub fn number(count: usize) -> Result<u32, AllocError>
-    ensures { IfOk result (λ n. n ≡ count) }
-{
-    if count > u32::MAX as usize {
-        return Err(AllocError);
-    }
-    Ok(count as u32)
 }
 
 fn put_unquoted(pool: &mut Row<u8>, bytes: &[u8]) -> Result<(), AllocError>
@@ -63,13 +53,14 @@ fn base(marks: &Pile<u32>) -> u32
 }
 
 fn put_word(b: &mut Builder, at: u32, bytes: &[u8]) -> Result<(), AllocError>
+    requires { length b.old.pool + length bytes.now < 2 ^ 32 }
     ensures { OnOk result (b.new ≡ put_word b.old at (word_text bytes.now)) }
 {
-    let start = number(b.pool.len())?;
+    let start = b.pool.len() as u32;
     let last = b.entries.len() == base(&b.marks) as usize;
     put_text(&mut b.pool, bytes)?;
-    let end = number(b.pool.len())?;
-    b.entries.push(Entry::Word {
+    let end = b.pool.len() as u32;
+    b.entries.push(TreeEntry::Word {
         last,
         at,
         start,
@@ -78,6 +69,7 @@ fn put_word(b: &mut Builder, at: u32, bytes: &[u8]) -> Result<(), AllocError>
 }
 
 fn put_left(b: &mut Builder, at: u32) -> Result<(), TextFault>
+    requires { length b.old.entries < 2 ^ 32 }
     ensures { Gives (λ _. b.new) result (put_left b.old at b.old.marks) }
 {
     let mark = match b.marks.pop() {
@@ -85,20 +77,22 @@ fn put_left(b: &mut Builder, at: u32) -> Result<(), TextFault>
         Some(mark) => mark,
     };
     let last = mark == base(&b.marks);
-    let inside = number(b.entries.len().saturating_sub(mark as usize))?;
-    b.entries.push(Entry::List { last, at, inside })?;
+    let inside = b.entries.len().saturating_sub(mark as usize) as u32;
+    b.entries.push(TreeEntry::List { last, at, inside })?;
     Ok(())
 }
 
 fn put_right(b: &mut Builder) -> Result<(), AllocError>
+    requires { length b.old.entries < 2 ^ 32 }
     ensures { OnOk result (b.new ≡ record b.old { marks = length b.old.entries ∷ b.old.marks }) }
 {
-    let mark = number(b.entries.len())?;
+    let mark = b.entries.len() as u32;
     b.marks.push(mark)
 }
 
 // Puts in a token before those that were.
 fn put(b: &mut Builder, text: &[u8], token: Token) -> Result<(), TextFault>
+    requires { amount b.old + (token.end - token.start) + 1 < 2 ^ 32 }
     ensures { Gives (λ _. b.new) result (put token.kind token.start (text_of text.now token) b.old) }
 {
     match token.kind {
@@ -116,7 +110,9 @@ fn put(b: &mut Builder, text: &[u8], token: Token) -> Result<(), TextFault>
 
 #[tactic(auto, using(crate::proofs::Planted::build_snoc), unfolding(crate::specs::Build::build))]
 fn put_all(b: &mut Builder, text: &[u8], tokens: &[Token]) -> Result<(), TextFault>
-    ensures { Gives (λ _. b.new) result (build text.now tokens.now b.old) }
+    requires { amount b.old + bulk tokens.now < 2 ^ 32 }
+    ensures built { Gives (λ _. b.new) result (build text.now tokens.now b.old) }
+    ensures few { OnOk result (amount b.new < 2 ^ 32) }
 {
     let mut rest = tokens;
     'tokens: while let Some((token, front)) = rest.split_last() {
@@ -128,7 +124,9 @@ fn put_all(b: &mut Builder, text: &[u8], tokens: &[Token]) -> Result<(), TextFau
 
 /// What tokens build, or the innermost list that is open.
 pub fn built(alloc: Global, text: &[u8], tokens: &[Token]) -> Result<Builder, TextFault>
-    ensures { Gives (λ x. x) result (build text.now tokens.now nothing_read) }
+    requires { bulk tokens.now < 2 ^ 32 }
+    ensures built { Gives (λ x. x) result (build text.now tokens.now nothing_read) }
+    ensures few { IfOk result (λ b. amount b < 2 ^ 32) }
 {
     let mut b = Builder {
         pool: Row::new(alloc),

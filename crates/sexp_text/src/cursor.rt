@@ -4,7 +4,7 @@ ghost use Rattle.sexp_text.specs.Shows.{forest, IsPart, IsLess};
 
 /// A word or a list of a tree, and whether it is the last one in its list.
 #[derive(Clone, Copy, Debug)]
-pub enum Entry {
+pub enum TreeEntry {
     /// A word: its byte, and where its text stands among the texts of all words.
     Word {
         last: bool,
@@ -24,7 +24,7 @@ pub enum Entry {
 #[derive(Clone, Copy, Debug)]
 pub struct Cursor<'a> {
     pub text: &'a [u8],
-    pub entries: &'a [Entry],
+    pub entries: &'a [TreeEntry],
 }
 
 /// What stands at a place.
@@ -63,7 +63,7 @@ pub fn front(list: Cursor<'_>) -> Part<'_>
         Some(found) => found,
     };
     match *first {
-        Entry::Word { at, start, end, .. } => Part::Word {
+        TreeEntry::Word { at, start, end, .. } => Part::Word {
             at,
             text: piece(list.text, start, end),
             rest: Cursor {
@@ -71,7 +71,7 @@ pub fn front(list: Cursor<'_>) -> Part<'_>
                 entries: rest,
             },
         },
-        Entry::List { at, inside, .. } => {
+        TreeEntry::List { at, inside, .. } => {
             let (inside, after) = rest.split_at((inside as usize).min(rest.len()));
             Part::List {
                 at,

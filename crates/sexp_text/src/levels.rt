@@ -4,9 +4,7 @@ ghost use Rattle.sexp_text.specs.Build.{level_step, levels};
 
 use crate::fault::TextFault;
 use crate::token::{Token, TokenKind};
-
-/// How many lists may stand within one another.
-pub const LEVELS: u32 = 64;
+use row_lists::NESTING_LIMIT_LEVELS;
 
 fn step(level: u32, kind: TokenKind, at: u32) -> Result<u32, TextFault>
     ensures { result ≡ level_step level kind at }
@@ -14,7 +12,7 @@ fn step(level: u32, kind: TokenKind, at: u32) -> Result<u32, TextFault>
     match kind {
         TokenKind::Word => Ok(level),
         TokenKind::Left => {
-            if level < LEVELS {
+            if level < NESTING_LIMIT_LEVELS {
                 Ok(level + 1)
             } else {
                 Err(TextFault::Deep { at })

@@ -1,5 +1,6 @@
 //! A text as brackets and words.
 ghost use Rattle.std.specs.Prelude.{◌≡◌, ◌<◌, ◌≤◌, ◌^◌, ◌++◌, ◌∷◌, [], OnOk, IfOk, IfErr, length, List, ℕ};
+ghost use Rattle.row_lists.specs.Limits.{text_limit_bytes};
 ghost use Rattle.sexp_text.specs.declared.token.Token.{Token};
 ghost use Rattle.sexp_text.specs.Words.{class};
 ghost use Rattle.sexp_text.specs.Text.{HasTokens, HasQuoteFault, WhyNoTokens};
@@ -223,7 +224,7 @@ fn last(tokens: &mut Row<Token>, mode: Mode, at: u32) -> Result<Option<u32>, All
 /// Puts in the tokens before the first quote that is at fault, and gives that quote.
 #[tactic(auto, unfolding(crate::specs::Scan::scan))]
 pub fn steps(tokens: &mut Row<Token>, bytes: &[u8]) -> Result<Option<u32>, AllocError>
-    requires { length bytes.now ≤ 67108864 }
+    requires { length bytes.now ≤ text_limit_bytes }
     ensures { IfOk result (λ o. scan tokens.old (Mode.Gap Before.Other) 0 bytes.now ≡ (tokens.new, o)) }
 {
     let mut mode = Mode::Gap {
@@ -236,7 +237,7 @@ pub fn steps(tokens: &mut Row<Token>, bytes: &[u8]) -> Result<Option<u32>, Alloc
 }
 
 fn all(alloc: Global, bytes: &[u8]) -> Result<Row<Token>, TextFault>
-    requires { length bytes.now ≤ 67108864 }
+    requires { length bytes.now ≤ text_limit_bytes }
     ensures { Gives (λ x. x) result (tokens_of bytes.now) }
 {
     let mut tokens = Row::new(alloc);
@@ -248,7 +249,7 @@ fn all(alloc: Global, bytes: &[u8]) -> Result<Row<Token>, TextFault>
 
 /// The brackets and words of a text of at most 67,108,864 bytes. The fault is a quote, or want of memory.
 pub fn lex(alloc: Global, bytes: &[u8]) -> Result<Row<Token>, TextFault>
-    requires { length bytes.now ≤ 67108864 }
+    requires { length bytes.now ≤ text_limit_bytes }
     // What is given are the text's tokens.
     ensures found { IfOk result (HasTokens bytes.now) }
     // A text of tokens is read, unless memory runs out.

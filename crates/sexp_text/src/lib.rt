@@ -22,7 +22,7 @@ mod units;
 
 pub use angle::angle_of;
 pub use angle_fault::AngleFault;
-pub use cursor::{Cursor, Entry, Part, front};
+pub use cursor::{Cursor, Part, TreeEntry, front};
 pub use fault::TextFault;
 pub use layout_io::{Name, Row};
 pub use length::length_of;
@@ -33,10 +33,3 @@ pub use reader::read_tree;
 pub use token::{Token, TokenKind};
 pub use tree::Tree;
 pub use units::Unit;
-
-#[cfg(test)]
-mod angle_tests;
-#[cfg(test)]
-mod length_tests;
-#[cfg(test)]
-mod tests;

@@ -4,7 +4,7 @@ ghost use Rattle.sexp_text.specs.Nodes.{size, Fits, next_of, IsWordFirst, text_f
 ghost use Rattle.sexp_text.specs.Shows.{forest};
 ghost use Rattle.sexp_text.specs.Trees.{tree_forest, node_at, IsNode};
 
-use crate::cursor::{Cursor, Entry, piece};
+use crate::cursor::{Cursor, TreeEntry, piece};
 use crate::tree::Tree;
 use layout_io::{Name, Row};
 use std::alloc::AllocError;
@@ -27,7 +27,7 @@ impl Tree {
     }
 
     // The entry of this number, which fits what begins there.
-    fn entry(&self, n: u32) -> Entry
+    fn entry(&self, n: u32) -> TreeEntry
         requires { n < size (tree_forest self.now) }
         ensures fits { Fits self.now.pool result n (size (tree_forest self.now)) (node_at self.now n) }
         ensures small { size (tree_forest self.now) < 2 ^ 32 }
@@ -41,8 +41,8 @@ impl Tree {
         ensures { IsNode self.now.pool n (node_at self.now n) result }
     {
         match self.entry(n) {
-            Entry::Word { at, start, end, .. } => Node::Word { at, start, end },
-            Entry::List { at, inside, .. } => {
+            TreeEntry::Word { at, start, end, .. } => Node::Word { at, start, end },
+            TreeEntry::List { at, inside, .. } => {
                 let first = if inside == 0 { None } else { Some(n + 1) };
                 Node::List { at, first }
             }
@@ -55,8 +55,10 @@ impl Tree {
         ensures { result ≡ next_of n (node_at self.now n) }
     {
         match self.entry(n) {
-            Entry::Word { last, .. } => { if last { None } else { Some(n + 1) } }
-            Entry::List { last, inside, .. } => { if last { None } else { Some(n + 1 + inside) } }
+            TreeEntry::Word { last, .. } => { if last { None } else { Some(n + 1) } }
+            TreeEntry::List { last, inside, .. } => {
+                if last { None } else { Some(n + 1 + inside) }
+            }
         }
     }
 
@@ -67,10 +69,10 @@ impl Tree {
         ensures { IfOk result (λ text. text ≡ text_first (node_at self.now n)) }
     {
         match self.entry(n) {
-            Entry::Word { start, end, .. } => {
+            TreeEntry::Word { start, end, .. } => {
                 Row::from_slice(self.alloc, piece(self.pool.as_slice(), start, end))
             }
-            Entry::List { .. } => unreachable!(),
+            TreeEntry::List { .. } => unreachable!(),
         }
     }
 

@@ -2,7 +2,7 @@
 ghost use Rattle.std.specs.Prelude.{◌<◌, ◌^◌, length};
 ghost use Rattle.sexp_text.specs.Nodes.{IsLaid};
 
-use crate::cursor::Entry;
+use crate::cursor::TreeEntry;
 use layout_io::Row;
 use std::alloc::Global;
 
@@ -11,7 +11,7 @@ use std::alloc::Global;
 pub struct Tree {
     pub(crate) alloc: Global,
     pub(crate) pool: Row<u8>,
-    pub(crate) entries: Row<Entry>,
+    pub(crate) entries: Row<TreeEntry>,
     ghost laid: { ∥ IsLaid pool entries ∥₁ },
     ghost small: { length entries < 2 ^ 32 },
 }
