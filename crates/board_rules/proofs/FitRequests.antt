@@ -22,10 +22,11 @@ use Rattle.board_items.specs.Adds.{item_of_add}
 use Rattle.board_items.specs.Formed.{IsFormed, IsFormedAdd, IsFormedWire}
 use Rattle.board_items.specs.Shapes.{chain_on, copper_of_item, shapes_of}
 use Rattle.board_rules.specs.declared.design.Parts.{Parts}
-use Rattle.board_rules.specs.Designs.{IsFitItem, IsFitShape, IsSound}
+use Rattle.board_rules.specs.Designs.{HasEnough, IsFitItem, IsFitShape, IsSound}
 use Rattle.board_rules.specs.Reasons.{Nothing, First, Then, IsOutside, IsBeyond, IsBarredVia, IsAddReason, IsAddsReason, IsOwnReason, IsStaticReason}
 use Rattle.board_rules.specs.Classes.{width_of}
 use Rattle.board_rules.specs.FitAdds.{IsFitAdd, HasFitAdds}
+use Rattle.board_rules.proofs.Cores.{placed_cores}
 
 -- where there is no reason, the line doesn't apply and the rest gives none
 pub no_first : (P : Type 0) (reason : Why) (rest : Option Why → Type 0) → First P reason rest None → (P → ⊥) × rest None
@@ -52,6 +53,7 @@ pub wire_fits : (p : Parts) (net layer width : ℕ) (points : List Pt) → IsFor
 wire_fits p net layer width points formed net_there layer_there = record {
   there = (net_there, layer_there);
   copper = All-cons IsWithinLimits (chain_on layer width points) [] (record { points = All-from_recursion IsInRange points formed.in_range; width = formed.width_fits }) (All-nil IsWithinLimits);
+  cores = All-cons HasEnough (chain_on layer width points) [] (let two = formed.two_points in omega (arith, two)) (All-nil HasEnough);
   few = omega arith;
 }
 
@@ -75,6 +77,7 @@ pub via_fits : (p : Parts) (net padstack : ℕ) (place : Pt) → IsSound p → n
 via_fits p net padstack place sound net_there stack_there within = record {
   there = (net_there, stack_there);
   copper = placed_fits place (length p.layers) (shapes_of (slice_get p.stacks padstack)) (of_stack (AllByRecursion (IsFitShape (length p.layers))) tt p.stacks padstack sound.stacks) within;
+  cores = placed_cores place (length p.layers) (shapes_of (slice_get p.stacks padstack)) (of_stack (AllByRecursion (IsFitShape (length p.layers))) tt p.stacks padstack sound.stacks);
   few = rw length-map (of_stack (λ shapes. length shapes < 2 ^ 32) (omega arith) p.stacks padstack sound.few_shapes);
 }
 

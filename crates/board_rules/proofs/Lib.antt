@@ -1,4 +1,9 @@
 pub mod Gaps
 pub mod BothWays
+pub mod Stating
 pub mod Walked
+pub mod Cores
+pub mod Same
+pub mod Counts
+pub mod Cells
 pub mod FitRequests

@@ -9,19 +9,21 @@ use Rattle.board_items.specs.declared.items.Item.TheVariants as items
 use Rattle.board_items.specs.declared.items.KeepKind.{KeepKind}
 use Rattle.board_items.specs.declared.items.KeepKind.TheVariants as keeps
 use Rattle.board_items.specs.declared.items.Padstack.{Padstack}
+use Rattle.board_items.specs.Adds.{is_fixed}
 use Rattle.board_items.specs.Shapes.{copper_of_item}
 use Rattle.board_rules.specs.declared.design.Kind.{Kind}
 use Rattle.board_rules.specs.declared.design.Kind.TheVariants as kinds
 use Rattle.board_rules.specs.declared.design.Parts.{Parts}
 use Rattle.board_rules.specs.declared.needs.Role.{Role}
 use Rattle.board_rules.specs.declared.needs.Role.TheVariants.{Copper, Keepout}
-use Rattle.board_rules.specs.Classes.{class_value}
+use Rattle.board_rules.specs.Classes.{untyped_of, class_value}
 
 -- the shapes lie on exactly one layer
 abbrev pub is_on_one_layer : List Shape → Bool
 is_on_one_layer [] = false
 is_on_one_layer (s ∷ rest) = list_all (λ t. t.layer == s.layer) rest
 
+-- what an item is to a clearance
 abbrev pub role_of : Item → Role
 role_of (items.Wire net layer width points fix) = Copper kinds.Wire
 role_of (items.Via net padstack place fix) = Copper kinds.Via
@@ -34,13 +36,6 @@ net_of (items.Wire net layer width points fix) = Some net
 net_of (items.Via net padstack place fix) = Some net
 net_of (items.Pad net shapes) = net
 net_of (items.Keep kind shapes) = None
-
--- pads and keepouts are fixed, and wires and vias that say so
-abbrev pub is_fixed : Item → Bool
-is_fixed (items.Wire net layer width points fix) = fix
-is_fixed (items.Via net padstack place fix) = fix
-is_fixed (items.Pad net shapes) = true
-is_fixed (items.Keep kind shapes) = true
 
 -- both have a net, and it is the same
 abbrev pub is_same_net : Option ℕ → Option ℕ → Bool
@@ -59,17 +54,23 @@ bars _ _ = false
 abbrev pub barred : KeepKind → Kind → Option ℕ
 barred keep kind = if bars keep kind then Some 1 else None
 
--- what two roles must keep, of items of these nets: between copper the largest of 1 nm and both classes' values
-abbrev pub gap_of : Parts → Role → Option ℕ → Role → Option ℕ → Option ℕ
-gap_of p (Copper k) net (Copper l) other = Some (max 1 (max (class_value p net k l) (class_value p other k l)))
-gap_of p (Copper k) net (Keepout keep) other = barred keep k
-gap_of p (Keepout keep) net (Copper l) other = barred keep l
-gap_of p (Keepout keep) net (Keepout other_keep) other = None
+-- what two roles must keep, of items of these nets, with these untyped values of the classes: between copper the largest
+-- of 1 nm and both classes' values
+abbrev pub gap_of : Parts → List (Option ℕ) → Role → Option ℕ → Role → Option ℕ → Option ℕ
+gap_of p untyped (Copper k) net (Copper l) other = Some (max 1 (max (class_value p untyped net k l) (class_value p untyped other k l)))
+gap_of p untyped (Copper k) net (Keepout keep) other = barred keep k
+gap_of p untyped (Keepout keep) net (Copper l) other = barred keep l
+gap_of p untyped (Keepout keep) net (Keepout other_keep) other = None
 
--- the clearance that two items must keep, or none: none within a net, and none between two fixed ones
+-- the clearance that two items must keep with these untyped values of the classes, or none: none within a net, and none
+-- between two fixed ones
+abbrev pub need_in : Parts → List (Option ℕ) → Item → Item → Option ℕ
+need_in p untyped a b =
+    if is_same_net (net_of a) (net_of b) || (is_fixed a && is_fixed b) then None else gap_of p untyped (role_of a) (net_of a) (role_of b) (net_of b)
+
+-- the clearance that two items must keep, with the untyped values that the classes state
 abbrev pub need_of : Parts → Item → Item → Option ℕ
-need_of p a b =
-    if is_same_net (net_of a) (net_of b) || (is_fixed a && is_fixed b) then None else gap_of p (role_of a) (net_of a) (role_of b) (net_of b)
+need_of p a b = need_in p (untyped_of p) a b
 
 -- each shape of the one is apart by c from each shape of the other
 pub record AreApart (stacks : List Padstack) (a b : Item) (c : ℕ) : Type 0 where

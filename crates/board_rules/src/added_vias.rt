@@ -1,11 +1,12 @@
 //! The first reason against a via that is added.
+ghost use Rattle.std.specs.Prelude.{◌≤◌, ◌+◌};
+ghost use Rattle.board_items.specs.Adds.{item_of_add};
 ghost use Rattle.board_items.specs.Formed.{IsFormedVia};
-ghost use Rattle.board_rules.specs.Designs.{IsSound};
 ghost use Rattle.board_rules.specs.Reasons.{IsAddReason};
+ghost use Rattle.board_rules.specs.Costs.{outline_most};
 
 use crate::design::Design;
 use crate::outline::lies_inside;
-use crate::vias::{may_have, via_in_range};
 use board_items::{Add, ItemView, Why};
 use seg_geometry::{Pt, Steps};
 use std::sync::ledger::Ledger;
@@ -20,9 +21,9 @@ impl Design {
         at: Pt,
         steps: &mut Steps<L>,
     ) -> Option<Why>
-        requires design { IsSound self.now.parts }
-        requires formed { IsFormedVia net padstack at }
-        ensures { IsAddReason self.now.parts a (Add.Via net padstack at) result }
+        requires { IsFormedVia net padstack at }
+        ensures reason { IsAddReason self.now.parts a (Add.Via net padstack at) result }
+        ensures cost { steps.new ≤ steps.old + outline_most self.now.parts (item_of_add (Add.Via net padstack at)) }
     {
         if self.parts.nets.len() <= net as usize {
             return Some(Why::Net { add: a });
@@ -30,10 +31,10 @@ impl Design {
         if self.parts.stacks.len() <= padstack as usize {
             return Some(Why::Padstack { add: a });
         }
-        if !may_have(&self.parts, net, padstack) {
+        if !self.may_have(net, padstack) {
             return Some(Why::Padstack { add: a });
         }
-        if !via_in_range(&self.parts, padstack, at) {
+        if !self.via_in_range(padstack, at) {
             return Some(Why::Range { add: a });
         }
         let via = ItemView::Via {

@@ -1,11 +1,12 @@
 //! The first reason against a wire that is added.
+ghost use Rattle.std.specs.Prelude.{◌≤◌, ◌+◌};
+ghost use Rattle.board_items.specs.Adds.{item_of_add};
 ghost use Rattle.board_items.specs.Formed.{IsFormedWire};
-ghost use Rattle.board_rules.specs.Designs.{IsSound};
 ghost use Rattle.board_rules.specs.Reasons.{IsAddReason};
+ghost use Rattle.board_rules.specs.Costs.{outline_most};
 
 use crate::design::Design;
 use crate::outline::lies_inside;
-use crate::vias::least_width;
 use board_items::{Add, ItemView, Why};
 use seg_geometry::{Pt, Steps};
 use std::sync::ledger::Ledger;
@@ -21,9 +22,9 @@ impl Design {
         points: &[Pt],
         steps: &mut Steps<L>,
     ) -> Option<Why>
-        requires design { IsSound self.now.parts }
-        requires formed { IsFormedWire net layer width points.now }
-        ensures { IsAddReason self.now.parts a (Add.Wire net layer width points.now) result }
+        requires { IsFormedWire net layer width points.now }
+        ensures reason { IsAddReason self.now.parts a (Add.Wire net layer width points.now) result }
+        ensures cost { steps.new ≤ steps.old + outline_most self.now.parts (item_of_add (Add.Wire net layer width points.now)) }
     {
         if self.parts.nets.len() <= net as usize {
             return Some(Why::Net { add: a });
@@ -31,7 +32,7 @@ impl Design {
         if self.parts.layers.len() <= layer as usize {
             return Some(Why::Layer { add: a });
         }
-        if width < least_width(&self.parts, net) {
+        if width < self.least_width(net) {
             return Some(Why::Narrow { add: a });
         }
         let wire = ItemView::Wire {

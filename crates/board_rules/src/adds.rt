@@ -1,9 +1,10 @@
 //! The first reason against adds by themselves.
-ghost use Rattle.std.specs.Prelude.{◌≤◌, length};
+ghost use Rattle.std.specs.Prelude.{◌≤◌, ◌+◌, length};
 ghost use Rattle.std.specs.List.{AllByRecursion};
+ghost use Rattle.board_items.specs.Adds.{item_of_add};
 ghost use Rattle.board_items.specs.Formed.{IsFormedAdd};
-ghost use Rattle.board_rules.specs.Designs.{IsSound};
 ghost use Rattle.board_rules.specs.Reasons.{IsAddReason, IsAddsReason};
+ghost use Rattle.board_rules.specs.Costs.{outline_most, adds_most};
 
 use crate::design::Design;
 use board_items::{Add, Why};
@@ -13,9 +14,9 @@ use std::sync::ledger::Ledger;
 impl Design {
     // The first reason against the add of number `a` by itself.
     fn add_why<L: Ledger>(&self, a: u32, add: &Add, steps: &mut Steps<L>) -> Option<Why>
-        requires design { IsSound self.now.parts }
-        requires formed { IsFormedAdd add.now }
-        ensures { IsAddReason self.now.parts a add.now result }
+        requires { IsFormedAdd add.now }
+        ensures reason { IsAddReason self.now.parts a add.now result }
+        ensures cost { steps.new ≤ steps.old + outline_most self.now.parts (item_of_add add.now) }
     {
         match add {
             Add::Wire {
@@ -30,10 +31,10 @@ impl Design {
 
     // The first reason against adds by themselves.
     pub(crate) fn adds_why<L: Ledger>(&self, adds: &[Add], steps: &mut Steps<L>) -> Option<Why>
-        requires design { IsSound self.now.parts }
         requires formed { AllByRecursion IsFormedAdd adds.now }
         requires few { length adds.now ≤ 64 }
-        ensures { IsAddsReason self.now.parts 1 adds.now result }
+        ensures reason { IsAddsReason self.now.parts 1 adds.now result }
+        ensures cost { steps.new ≤ steps.old + adds_most self.now.parts adds.now }
     {
         let mut a = 1;
         for add in adds {

@@ -1,10 +1,16 @@
 //! The design that a board is made of.
 ghost use Rattle.std.specs.Prelude.{◌≡◌, ◌<◌, ◌≤◌, ◌^◌, length, slice_get, Some, IfOk, IfSome};
 ghost use Rattle.board_rules.specs.Designs.{IsSound};
+ghost use Rattle.board_rules.specs.OneProof.{IsSound-prop};
+ghost use Rattle.board_rules.specs.Classes.{untyped_of, largest_of};
+ghost use Rattle.board_rules.specs.Tables.{tables_of};
+ghost use Rattle.std.proofs.Props.{props};
 
+use crate::largest::largest_of;
+use crate::tables::{KindTable, tables_of, untyped_in};
 use board_items::{Items, Stacks};
 use layout_io::Name;
-use row_lists::Row;
+use row_lists::{Copied, Row};
 use seg_geometry::{Ids, Points};
 use std::alloc::AllocError;
 
@@ -39,6 +45,12 @@ pub enum What {
 pub struct Stated {
     pub what: What,
     pub value: u32,
+}
+
+impl Copied for Stated {
+    fn copied(&self) -> Result<Stated, AllocError> {
+        Ok(*self)
+    }
 }
 
 /// Stated clearances in the design's order. Of those that state the same thing the last one holds.
@@ -82,10 +94,18 @@ pub struct Parts {
     pub items: Items,
 }
 
-/// A design.
+/// A design. It is sound: each number names a thing that is there, and all is within the limits. Beside its parts it
+/// keeps what its classes state for a look-up.
 #[derive(Debug, Drop)]
 pub struct Design {
     pub(crate) parts: Parts,
+    pub(crate) tables: Row<KindTable>,
+    pub(crate) untyped: Row<Option<u32>>,
+    pub(crate) largest: u32,
+    pub ghost sound: { IsSound parts } by { IsSound-prop parts },
+    ghost tabled: { tables ≡ tables_of parts.classes } by { Prim.hlevel props },
+    ghost untyped_is: { untyped ≡ untyped_of parts } by { Prim.hlevel props },
+    ghost largest_is: { largest ≡ largest_of parts },
 }
 
 impl Design {
@@ -94,7 +114,16 @@ impl Design {
         requires { IsSound parts }
         ensures { IfOk result (λ d. d.parts ≡ parts) }
     {
-        Ok(Design { parts })
+        let alloc = parts.classes.allocator();
+        let tables = tables_of(alloc, parts.classes.as_slice())?;
+        let untyped = untyped_in(alloc, parts.classes.as_slice())?;
+        let largest = largest_of(&parts);
+        Ok(Design {
+            parts,
+            tables,
+            untyped,
+            largest,
+        })
     }
 
     /// The design's name.
@@ -104,9 +133,16 @@ impl Design {
         &self.parts.name
     }
 
+    /// The largest clearance in nm that any class states, at least 1. A statement that a later one of the same thing
+    /// replaces states nothing.
+    pub fn largest_clearance(&self) -> u32
+        ensures { result ≡ largest_of self.now.parts }
+    {
+        self.largest
+    }
+
     /// How many layers the design has.
     pub fn layer_count(&self) -> u32
-        requires { IsSound self.now.parts }
         ensures { result ≡ length self.now.parts.layers }
     {
         self.parts.layers.len() as u32
@@ -122,7 +158,6 @@ impl Design {
 
     /// How many nets the design has.
     pub fn net_count(&self) -> u32
-        requires { IsSound self.now.parts }
         ensures { result ≡ length self.now.parts.nets }
     {
         self.parts.nets.len() as u32
@@ -152,7 +187,6 @@ impl Design {
 
     /// How many areas the outline has.
     pub fn outline_count(&self) -> u32
-        requires { IsSound self.now.parts }
         ensures { result ≡ length self.now.parts.outline }
     {
         self.parts.outline.len() as u32

@@ -1,6 +1,5 @@
 //! The first reason against a boundary that doesn't depend on the board.
 ghost use Rattle.std.specs.Prelude.{ℕ};
-ghost use Rattle.board_rules.specs.Designs.{IsSound};
 ghost use Rattle.board_rules.specs.Reasons.{IsLayerReason, IsClientReason, IsStaticReason};
 
 use crate::design::Design;
@@ -25,7 +24,6 @@ fn client_why(clients: u8, entitled: &[u8]) -> Option<Why>
 impl Design {
     // The first layer that isn't there.
     fn layer_why(&self, layers: &[u8]) -> Option<Why>
-        requires { IsSound self.now.parts }
         ensures { IsLayerReason self.now.parts layers.now result }
     {
         for layer in layers {
@@ -44,7 +42,6 @@ impl Design {
         entitled: &[u8],
         clients: u8,
     ) -> Option<Why>
-        requires { IsSound self.now.parts }
         ensures { IsStaticReason self.now.parts clients (Request.Fence layers.now area.now entitled.now) result }
     {
         if area.len() < 3 {

@@ -1,40 +1,13 @@
 //! Whether an item may be asked about, for tests.
 ghost use Rattle.std.specs.Prelude.{◌≡◌, ◌<◌, ◌^◌, length, All, IsTrue};
-ghost use Rattle.seg_geometry.specs.Points.{IsInRange};
-ghost use Rattle.area_geometry.specs.Copper.{copper_of, moved, IsWithinLimits};
+ghost use Rattle.area_geometry.specs.Copper.{copper_of, IsWithinLimits};
 ghost use Rattle.board_items.specs.Adds.{item_seen};
 ghost use Rattle.board_items.specs.Shapes.{copper_of_item};
-ghost use Rattle.board_rules.specs.Designs.{NamesThere, IsFitItem};
+ghost use Rattle.board_rules.specs.Designs.{NamesThere, HasEnough, IsFitItem};
 
 use crate::Parts;
-use crate::samples::pt;
-use area_geometry::ShapeView;
+use area_geometry::{ShapeView, is_within_limits};
 use board_items::{ItemView, Stacks, shape_at, shape_count};
-use seg_geometry::{Pt, in_range};
-
-fn lies_in_range(p: Pt, at: Pt) -> bool
-    ensures { IsTrue result → IsInRange (moved at p) }
-{
-    if !in_range(p) {
-        return false;
-    }
-    if !in_range(at) {
-        return false;
-    }
-    in_range(pt(p.x + at.x, p.y + at.y))
-}
-
-fn all_in_range(points: &[Pt], at: Pt) -> bool
-    ensures { IsTrue result → All (λ p. IsInRange (moved at p)) points.now }
-{
-    points.iter().all(|p| lies_in_range(*p, at))
-}
-
-fn fits(s: ShapeView<'_>) -> bool
-    ensures { IsTrue result → IsWithinLimits (copper_of s.entry) }
-{
-    s.width <= 100_000_000 && all_in_range(s.points, s.at)
-}
 
 fn has_few(item: ItemView<'_>, stacks: &Stacks) -> bool
     ensures { IsTrue result → length (copper_of_item stacks.now (item_seen item.entry)) < 2 ^ 32 }
@@ -54,7 +27,29 @@ fn all_fit(item: ItemView<'_>, stacks: &Stacks) -> bool
     ensures { IsTrue result → All IsWithinLimits (copper_of_item stacks.now (item_seen item.entry)) }
 {
     for i in 0..shape_count(item, stacks) {
-        if !fits(shape_at(item, stacks, i)) {
+        if !is_within_limits(shape_at(item, stacks, i)) {
+            return false;
+        }
+    }
+    true
+}
+
+// Whether a shape has its points: an area three, a chain one.
+fn has_enough(s: ShapeView<'_>) -> bool
+    ensures { IsTrue result → HasEnough (copper_of s.entry) }
+{
+    if s.area {
+        return 3 <= s.points.len();
+    }
+    1 <= s.points.len()
+}
+
+fn have_enough(item: ItemView<'_>, stacks: &Stacks) -> bool
+    requires { length (copper_of_item stacks.now (item_seen item)) < 2 ^ 32 }
+    ensures { IsTrue result → All HasEnough (copper_of_item stacks.now (item_seen item.entry)) }
+{
+    for i in 0..shape_count(item, stacks) {
+        if !has_enough(shape_at(item, stacks, i)) {
             return false;
         }
     }
@@ -83,6 +78,9 @@ pub(crate) fn fits_item(parts: &Parts, item: ItemView<'_>) -> bool
         return false;
     }
     if !has_few(item, &parts.stacks) {
+        return false;
+    }
+    if !have_enough(item, &parts.stacks) {
         return false;
     }
     all_fit(item, &parts.stacks)

@@ -1,6 +1,6 @@
 //! The kinds of items, and what is stated for two of them.
 ghost use Rattle.std.specs.Prelude.{◌≡◌, if◌then◌else◌};
-ghost use Rattle.board_rules.specs.Classes.{same_kind, same_what, or_else, value_of, is_one_smd, rows_value};
+ghost use Rattle.board_rules.specs.Classes.{same_kind, same_what, or_else, value_of, is_one_smd, typed_value};
 
 use crate::design::{Kind, Stated, What};
 
@@ -52,7 +52,7 @@ fn newer(row: &Stated, what: What, found: Option<u32>) -> Option<u32>
 }
 
 // The value that the last statement of this thing gives.
-fn value_of(rows: &[Stated], what: What) -> Option<u32>
+pub(crate) fn value_of(rows: &[Stated], what: What) -> Option<u32>
     ensures { result ≡ value_of what rows.now }
 {
     let mut found = None;
@@ -81,11 +81,10 @@ fn smd_value(rows: &[Stated], k: Kind, l: Kind) -> Option<u32>
     }
 }
 
-// What a list of statements gives two kinds.
-pub(crate) fn rows_value(rows: &[Stated], k: Kind, l: Kind) -> Option<u32>
-    ensures { result ≡ rows_value rows.now k l }
+// What a list of statements gives two kinds but for an untyped value.
+pub(crate) fn typed_value(rows: &[Stated], k: Kind, l: Kind) -> Option<u32>
+    ensures { result ≡ typed_value rows.now k l }
 {
     let own = value_of(rows, What::Pair { a: k, b: l });
-    let smd = smd_value(rows, k, l);
-    or_else(own, or_else(smd, value_of(rows, What::Untyped)))
+    or_else(own, smd_value(rows, k, l))
 }

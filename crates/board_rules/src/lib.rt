@@ -15,6 +15,7 @@ mod outline;
 mod own;
 mod pairs;
 mod reasons;
+mod tables;
 mod vias;
 
 pub use design::{

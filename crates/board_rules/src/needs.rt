@@ -2,13 +2,14 @@
 ghost use Rattle.std.specs.Prelude.{◌≡◌, ◌==◌, slice_get, max, if◌then◌else◌};
 ghost use Rattle.std.specs.List.{list_all};
 ghost use Rattle.board_items.specs.Adds.{item_seen};
-ghost use Rattle.board_rules.specs.Classes.{rows_value, stated_in, class_in, class_of, class_value};
-ghost use Rattle.board_rules.specs.Needs.{is_on_one_layer, role_of, net_of, is_fixed, is_same_net, bars, barred, gap_of, need_of};
+ghost use Rattle.board_rules.specs.Classes.{typed_value, stated_in, untyped_of, untyped_at, own_value, class_in, class_of, class_value};
+ghost use Rattle.board_rules.specs.Needs.{is_on_one_layer, role_of, net_of, is_same_net, bars, barred, gap_of, need_of};
 
 use crate::design::{Design, Kind, NetRows};
-use crate::kinds::{or_else, rows_value};
+use crate::kinds::or_else;
+use crate::tables::cell_at;
 use area_geometry::{Shape, Shapes};
-use board_items::{ItemView, KeepKind};
+use board_items::{ItemView, KeepKind, is_fixed};
 
 // What an item is to a clearance: copper of a kind, or a keepout.
 #[derive(Clone, Copy)]
@@ -74,17 +75,6 @@ fn net_of(item: ItemView<'_>) -> Option<u32>
     }
 }
 
-fn is_fixed(item: ItemView<'_>) -> bool
-    ensures { result ≡ is_fixed (item_seen item.entry) }
-{
-    match item {
-        ItemView::Wire { fix, .. } => fix,
-        ItemView::Via { fix, .. } => fix,
-        ItemView::Pad { .. } => true,
-        ItemView::Keep { .. } => true,
-    }
-}
-
 // Whether both have a net, and it is the same.
 fn is_same_net(a: Option<u32>, b: Option<u32>) -> bool
     ensures { result ≡ is_same_net a b }
@@ -135,27 +125,41 @@ impl Design {
         }
     }
 
-    // What the statements of a class give two kinds.
-    fn stated(&self, class: u32, k: Kind, l: Kind) -> Option<u32>
-        ensures { result ≡ rows_value (stated_in (slice_get self.now.parts.classes class)) k l }
+    // The untyped value of a class.
+    fn untyped(&self, class: u32) -> Option<u32>
+        ensures { result ≡ untyped_at (untyped_of self.now.parts) class }
     {
-        match self.parts.classes.as_slice().get(class as usize) {
-            None => rows_value(&[], k, l),
-            Some(row) => rows_value(row.clearances.as_slice(), k, l),
+        match self.untyped.as_slice().get(class as usize) {
+            None => None,
+            Some(value) => *value,
         }
+    }
+
+    // What a class states for two kinds but for its untyped value.
+    fn typed(&self, class: u32, k: Kind, l: Kind) -> Option<u32>
+        ensures { result ≡ typed_value (stated_in (slice_get self.now.parts.classes class)) k l }
+    {
+        cell_at(&self.tables, class, k, l)
+    }
+
+    // What a class gives two kinds.
+    fn own_value(&self, class: u32, k: Kind, l: Kind) -> Option<u32>
+        ensures { result ≡ own_value self.now.parts (untyped_of self.now.parts) class k l }
+    {
+        or_else(self.typed(class, k, l), self.untyped(class))
     }
 
     // What the class of a net gives two kinds: its own statements, then the structure's, then 0.
     fn class_value(&self, net: Option<u32>, k: Kind, l: Kind) -> u32
-        ensures { result ≡ class_value self.now.parts net k l }
+        ensures { result ≡ class_value self.now.parts (untyped_of self.now.parts) net k l }
     {
-        let own = self.stated(self.class_of(net), k, l);
-        or_else(own, self.stated(0, k, l)).unwrap_or(0)
+        let own = self.own_value(self.class_of(net), k, l);
+        or_else(own, self.own_value(0, k, l)).unwrap_or(0)
     }
 
     // What copper of two nets must keep.
     fn copper_gap(&self, k: Kind, net: Option<u32>, l: Kind, other: Option<u32>) -> u32
-        ensures { result ≡ max 1 (max (class_value self.now.parts net k l) (class_value self.now.parts other k l)) }
+        ensures { let us = untyped_of self.now.parts in result ≡ max 1 (max (class_value self.now.parts us net k l) (class_value self.now.parts us other k l)) }
     {
         let own = self.class_value(net, k, l);
         1u32.max(own.max(self.class_value(other, k, l)))
@@ -163,7 +167,7 @@ impl Design {
 
     // What two roles must keep, of items of these nets.
     fn gap(&self, a: Role, net: Option<u32>, b: Role, other: Option<u32>) -> Option<u32>
-        ensures { result ≡ gap_of self.now.parts a net b other }
+        ensures { result ≡ gap_of self.now.parts (untyped_of self.now.parts) a net b other }
     {
         match (a, b) {
             (Role::Copper { kind: k }, Role::Copper { kind: l }) => {

@@ -2,9 +2,10 @@
 ghost use Rattle.std.specs.Prelude.{◌≡◌, ◌≤◌, ◌+◌, length};
 ghost use Rattle.std.specs.List.{AllByRecursion};
 ghost use Rattle.board_items.specs.Adds.{item_of_add, item_seen, layer_of_add};
-ghost use Rattle.board_rules.specs.Designs.{IsSound, IsFitItem};
+ghost use Rattle.board_rules.specs.Designs.{IsFitItem};
 ghost use Rattle.board_rules.specs.Reasons.{IsNearReason, IsOwnReason};
 ghost use Rattle.board_rules.specs.FitAdds.{IsFitAdd};
+ghost use Rattle.board_rules.specs.Costs.{near_most, own_most};
 
 use crate::design::Design;
 use board_items::{Add, ItemView, Why, view_add};
@@ -28,11 +29,11 @@ impl Design {
         others: &[Add],
         steps: &mut Steps<L>,
     ) -> Option<Why>
-        requires design { IsSound self.now.parts }
         requires fits { IsFitItem self.now.parts (item_seen item) }
         requires others_fit { AllByRecursion (IsFitAdd self.now.parts) others.now }
         requires few { a + length others.now ≤ 64 }
-        ensures { IsNearReason self.now.parts a (item_seen item.entry) (a + 1) others.now result }
+        ensures reason { IsNearReason self.now.parts a (item_seen item.entry) (a + 1) others.now result }
+        ensures cost { steps.new ≤ steps.old + near_most self.now.parts (item_seen item.entry) others.now }
     {
         let mut b = a + 1;
         for other in others {
@@ -46,10 +47,10 @@ impl Design {
 
     // The least pair of adds that are too near.
     pub(crate) fn own_why<L: Ledger>(&self, adds: &[Add], steps: &mut Steps<L>) -> Option<Why>
-        requires design { IsSound self.now.parts }
         requires fits { AllByRecursion (IsFitAdd self.now.parts) adds.now }
         requires few { length adds.now ≤ 64 }
-        ensures { IsOwnReason self.now.parts 1 adds.now result }
+        ensures reason { IsOwnReason self.now.parts 1 adds.now result }
+        ensures cost { steps.new ≤ steps.old + own_most self.now.parts adds.now }
     {
         for i in 0..adds.len() {
             let item = item_made(&adds[i]);

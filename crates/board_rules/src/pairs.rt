@@ -1,10 +1,13 @@
 //! Two items of a board against each other.
-ghost use Rattle.std.specs.Prelude.{◌≡◌, ◌≤◌, ◌<◌, ◌^◌, ◌↔◌, length, All, IsTrue};
-ghost use Rattle.area_geometry.specs.Copper.{copper_of, IsWithinLimits};
+ghost use Rattle.std.specs.Prelude.{◌≤◌, ◌<◌, ◌+◌, ◌*◌, ◌^◌, ◌↔◌, length, All, IsTrue};
+ghost use Rattle.row_lists.specs.Limits.{width_limit_nm};
+ghost use Rattle.area_geometry.specs.Copper.{copper_of, pieces_of, IsWithinLimits};
 ghost use Rattle.area_geometry.specs.Apart.{AreShapesApart};
 ghost use Rattle.board_items.specs.Adds.{item_seen};
 ghost use Rattle.board_items.specs.Shapes.{copper_of_item};
-ghost use Rattle.board_rules.specs.Designs.{IsSound, IsFitItem};
+ghost use Rattle.board_items.specs.Segments.{segments_in, segments_of};
+ghost use Rattle.board_rules.specs.Costs.{pair_most};
+ghost use Rattle.board_rules.specs.Designs.{IsFitItem};
 ghost use Rattle.board_rules.specs.Needs.{AreApart, KeepsNeed};
 
 use crate::design::Design;
@@ -24,8 +27,9 @@ fn shape_clears<L: Ledger>(
     requires s_in { IsWithinLimits (copper_of s) }
     requires b_in { All IsWithinLimits (copper_of_item stacks.now (item_seen b)) }
     requires b_few { length (copper_of_item stacks.now (item_seen b)) < 2 ^ 32 }
-    requires gap_fits { gap ≤ 100000000 }
-    ensures { IsTrue result ↔ All (λ t. AreShapesApart (copper_of s.entry) t gap) (copper_of_item stacks.now (item_seen b.entry)) }
+    requires gap_fits { gap ≤ width_limit_nm }
+    ensures apart { IsTrue result ↔ All (λ t. AreShapesApart (copper_of s.entry) t gap) (copper_of_item stacks.now (item_seen b.entry)) }
+    ensures cost { steps.new ≤ steps.old + length (pieces_of (copper_of s.entry)) * segments_in (copper_of_item stacks.now (item_seen b.entry)) }
 {
     for j in 0..shape_count(b, stacks) {
         if !shape_keeps(s, shape_at(b, stacks, j), gap, steps) {
@@ -47,8 +51,9 @@ fn items_keep<L: Ledger>(
     requires a_few { length (copper_of_item stacks.now (item_seen a)) < 2 ^ 32 }
     requires b_in { All IsWithinLimits (copper_of_item stacks.now (item_seen b)) }
     requires b_few { length (copper_of_item stacks.now (item_seen b)) < 2 ^ 32 }
-    requires gap_fits { gap ≤ 100000000 }
-    ensures { IsTrue result ↔ AreApart stacks.now (item_seen a.entry) (item_seen b.entry) gap }
+    requires gap_fits { gap ≤ width_limit_nm }
+    ensures apart { IsTrue result ↔ AreApart stacks.now (item_seen a.entry) (item_seen b.entry) gap }
+    ensures cost { steps.new ≤ steps.old + segments_of stacks.now (item_seen a.entry) * segments_of stacks.now (item_seen b.entry) }
 {
     for i in 0..shape_count(a, stacks) {
         if !shape_clears(shape_at(a, stacks, i), b, stacks, gap, steps) {
@@ -59,17 +64,18 @@ fn items_keep<L: Ledger>(
 }
 
 impl Design {
-    /// Whether two items have no need, or keep it. It takes no memory.
+    /// Whether two items have no need, or keep it. It takes no memory, and at most one step for each segment or edge of
+    /// the one and each of the other.
     pub fn pair_keeps<L: Ledger>(
         &self,
         a: ItemView<'_>,
         b: ItemView<'_>,
         steps: &mut Steps<L>,
     ) -> bool
-        requires design { IsSound self.now.parts }
         requires a_fits { IsFitItem self.now.parts (item_seen a) }
         requires b_fits { IsFitItem self.now.parts (item_seen b) }
-        ensures { IsTrue result ↔ KeepsNeed self.now.parts (item_seen a.entry) (item_seen b.entry) }
+        ensures keeps { IsTrue result ↔ KeepsNeed self.now.parts (item_seen a.entry) (item_seen b.entry) }
+        ensures cost { steps.new ≤ steps.old + pair_most self.now.parts (item_seen a.entry) (item_seen b.entry) }
     {
         match self.need(a, b) {
             None => true,

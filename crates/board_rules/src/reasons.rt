@@ -1,10 +1,10 @@
 //! The first reason against a request that doesn't depend on the board.
-ghost use Rattle.std.specs.Prelude.{◌≡◌, ◌↔◌, [], ℕ, IsTrue, IfNone};
+ghost use Rattle.std.specs.Prelude.{◌≡◌, ◌↔◌, ◌≤◌, ◌+◌, [], ℕ, IsTrue, IfNone};
 ghost use Rattle.std.specs.List.{AllByRecursion};
 ghost use Rattle.board_items.specs.Formed.{IsFormed, IsFormedEdit};
-ghost use Rattle.board_rules.specs.Designs.{IsSound};
 ghost use Rattle.board_rules.specs.Reasons.{IsStaticReason};
 ghost use Rattle.board_rules.specs.FitAdds.{IsFitAdd, HasFitAdds};
+ghost use Rattle.board_rules.specs.Costs.{adds_most, own_most, static_most};
 
 use crate::design::Design;
 use board_items::{Add, Request, Why};
@@ -26,10 +26,10 @@ impl Design {
         adds: &[Add],
         steps: &mut Steps<L>,
     ) -> Option<Why>
-        requires design { IsSound self.now.parts }
-        requires formed { IsFormedEdit deletes.now adds.now }
+        requires { IsFormedEdit deletes.now adds.now }
         ensures reason { (clients : ℕ) → IsStaticReason self.now.parts clients (Request.Edit deletes.now adds.now) result }
         ensures fits { IfNone result (AllByRecursion (IsFitAdd self.now.parts) adds.now) }
+        ensures cost { steps.new ≤ steps.old + (adds_most self.now.parts adds.now + own_most self.now.parts adds.now) }
     {
         if is_empty(deletes, adds) {
             return Some(Why::Empty);
@@ -42,17 +42,18 @@ impl Design {
 
     /// The first reason against a request that doesn't depend on the board, or none: of an edit that it is empty,
     /// that an add by itself is at fault, or that two of its adds are too near; of a boundary its area, its layers
-    /// and its clients, of which there are `clients`. It takes no memory.
+    /// and its clients, of which there are `clients`. It takes no memory. Of an edit it takes at most a step for each
+    /// segment of an add and each edge of the outline, and for each two segments of two adds; else it takes none.
     pub fn static_why<L: Ledger>(
         &self,
         request: &Request,
         clients: u8,
         steps: &mut Steps<L>,
     ) -> Option<Why>
-        requires design { IsSound self.now.parts }
-        requires formed { IsFormed request.now }
+        requires { IsFormed request.now }
         ensures reason { IsStaticReason self.now.parts clients request.now result }
         ensures fits { IfNone result (HasFitAdds self.now.parts request.now) }
+        ensures cost { steps.new ≤ steps.old + static_most self.now.parts request.now }
     {
         match request {
             Request::Edit { deletes, adds } => {

@@ -1,15 +1,15 @@
 //! A design for tests.
-ghost use Rattle.std.specs.Prelude.{◌≡◌, ◌≤◌, ◌<◌, ◌^◌, length, IfOk};
+ghost use Rattle.std.specs.Prelude.{◌≡◌, ◌≤◌, ◌<◌, ◌+◌, ◌^◌, length, IfOk};
 ghost use Rattle.std.specs.List.{AllByRecursion};
-ghost use Rattle.seg_geometry.specs.Points.{IsInRange};
-ghost use Rattle.board_rules.specs.Designs.{IsSound, IsFitClass, IsFitShape};
+ghost use Rattle.row_lists.specs.Limits.{width_limit_nm};
+ghost use Rattle.board_rules.specs.Designs.{IsSound, IsFitArea, IsFitClass, IsFitShape};
 
 use crate::{
     Areas, ClassRow, ClassRows, Design, Kind, Names, NetRow, NetRows, Parts, Stated, StatedRows,
     What,
 };
 use area_geometry::{Core, Shape, Shapes};
-use board_items::{Item, Items, KeepKind, Padstack, Stacks};
+use board_items::{Items, Padstack, Stacks};
 use row_lists::Row;
 use seg_geometry::{Ids, Points, Pt};
 use std::alloc::{AllocError, Global};
@@ -41,7 +41,7 @@ pub(crate) fn spots(alloc: Global, layers: &[u8]) -> Result<Shapes, AllocError> 
 }
 
 fn class(alloc: Global, name: &[u8], stated: &[Stated]) -> Result<ClassRow, AllocError>
-    ensures { AllByRecursion (λ s. s.value ≤ 100000000) stated.now → IfOk result (IsFitClass 1) }
+    ensures { AllByRecursion (λ s. s.value ≤ width_limit_nm) stated.now → IfOk result (IsFitClass 1) }
 {
     Ok(ClassRow {
         name: Row::from_slice(alloc, name)?,
@@ -118,7 +118,7 @@ fn one_stack(alloc: Global) -> Result<Stacks, AllocError>
 
 fn one_area(alloc: Global) -> Result<Areas, AllocError>
     ensures count { IfOk result (λ all. length all ≡ 1) }
-    ensures fit { IfOk result (AllByRecursion (AllByRecursion IsInRange)) }
+    ensures fit { IfOk result (AllByRecursion IsFitArea) }
 {
     let mut areas = Areas::new(alloc);
     areas.push(Points::from_slice(alloc, &[pt(0, 0), pt(9, 0), pt(0, 9)])?)?;
@@ -142,49 +142,86 @@ pub(crate) fn sound_parts(alloc: Global) -> Result<Parts, AllocError>
     })
 }
 
-fn untyped(value: u32) -> Stated {
+fn untyped(value: u32) -> Stated
+    ensures { result.value ≡ value }
+{
     Stated {
         what: What::Untyped,
         value,
     }
 }
 
-fn smd(value: u32) -> Stated {
+fn smd(value: u32) -> Stated
+    ensures { result.value ≡ value }
+{
     Stated {
         what: What::DefaultSmd,
         value,
     }
 }
 
-fn pair(a: Kind, b: Kind, value: u32) -> Stated {
+fn pair(a: Kind, b: Kind, value: u32) -> Stated
+    ensures { result.value ≡ value }
+{
     Stated {
         what: What::Pair { a, b },
         value,
     }
 }
 
-fn classes(alloc: Global) -> Result<ClassRows, AllocError> {
+// Puts one more class at the end.
+fn add_class(
+    alloc: Global,
+    rows: &mut ClassRows,
+    name: &[u8],
+    stated: &[Stated],
+) -> Result<(), AllocError>
+    requires { AllByRecursion (λ s. s.value ≤ width_limit_nm) stated.now }
+    ensures count { IfOk result (λ _. length rows.new ≡ length rows.old + 1) }
+    ensures fit { AllByRecursion (IsFitClass 1) rows.old → IfOk result (λ _. AllByRecursion (IsFitClass 1) rows.new) }
+{
+    rows.push(class(alloc, name, stated)?)
+}
+
+// The structure's rule and a class that states a value twice.
+fn two_classes(alloc: Global) -> Result<ClassRows, AllocError>
+    ensures count { IfOk result (λ all. length all ≡ 2) }
+    ensures fit { IfOk result (AllByRecursion (IsFitClass 1)) }
+{
     let structure = [
-        untyped(200_000),
+        untyped(500_000),
         smd(150_000),
         pair(Kind::Via, Kind::Wire, 90_000),
+        untyped(200_000),
     ];
     let fine = [
-        pair(Kind::Wire, Kind::Smd, 50_000),
+        pair(Kind::Wire, Kind::Smd, 250_000),
         pair(Kind::Smd, Kind::Wire, 60_000),
         untyped(100_000),
     ];
     let mut rows = ClassRows::new(alloc);
-    rows.push(class(alloc, b"", &structure)?)?;
-    rows.push(class(alloc, b"fine", &fine)?)?;
-    rows.push(class(alloc, b"bare", &[])?)?;
-    rows.push(class(alloc, b"small", &[smd(70_000)])?)?;
-    rows.push(class(alloc, b"none", &[untyped(0)])?)?;
+    add_class(alloc, &mut rows, b"".as_slice(), &structure)?;
+    add_class(alloc, &mut rows, b"fine".as_slice(), &fine)?;
+    Ok(rows)
+}
+
+fn five_classes(alloc: Global) -> Result<ClassRows, AllocError>
+    ensures count { IfOk result (λ all. length all ≡ 5) }
+    ensures fit { IfOk result (AllByRecursion (IsFitClass 1)) }
+{
+    let mut rows = two_classes(alloc)?;
+    add_class(alloc, &mut rows, b"bare".as_slice(), &[])?;
+    add_class(alloc, &mut rows, b"small".as_slice(), &[smd(70_000)])?;
+    add_class(alloc, &mut rows, b"none".as_slice(), &[untyped(0)])?;
     Ok(rows)
 }
 
 // A net of each class of these numbers.
-fn nets(alloc: Global, classes: &[u32]) -> Result<NetRows, AllocError> {
+fn nets(alloc: Global, classes: &[u32]) -> Result<NetRows, AllocError>
+    requires { AllByRecursion (λ c. c < 5) classes.now }
+    ensures count { IfOk result (λ all. length all ≡ length classes.now) }
+    ensures fit { IfOk result (AllByRecursion (λ row. row.class < 5)) }
+{
     let mut rows = NetRows::new(alloc);
     for class in classes {
         rows.push(net(alloc, *class)?)?;
@@ -192,51 +229,22 @@ fn nets(alloc: Global, classes: &[u32]) -> Result<NetRows, AllocError> {
     Ok(rows)
 }
 
-fn items(alloc: Global) -> Result<Items, AllocError> {
-    let mut items = Items::new(alloc);
-    items.push(Item::Wire {
-        net: 1,
-        layer: 0,
-        width: 250_000,
-        points: Points::from_slice(alloc, &[pt(0, 0), pt(5, 6)])?,
-        fix: true,
-    })?;
-    items.push(Item::Via {
-        net: 2,
-        padstack: 0,
-        at: pt(7, -8),
-        fix: false,
-    })?;
-    items.push(Item::Pad {
-        net: Some(3),
-        shapes: spots(alloc, &[0, 1])?,
-    })?;
-    items.push(Item::Keep {
-        kind: KeepKind::Vias,
-        shapes: spots(alloc, &[1])?,
-    })?;
-    Ok(items)
+// The parts of a design whose nets 2k and 2k + 1 are of class k.
+fn full_parts(alloc: Global) -> Result<Parts, AllocError>
+    ensures { IfOk result IsSound }
+{
+    Ok(Parts {
+        name: Row::from_slice(alloc, b"s.dsn".as_slice())?,
+        layers: two_layers(alloc)?,
+        stacks: one_stack(alloc)?,
+        nets: nets(alloc, &[0, 0, 1, 1, 2, 2, 3, 3, 4, 4])?,
+        classes: five_classes(alloc)?,
+        outline: one_area(alloc)?,
+        items: Items::new(alloc),
+    })
 }
 
-// Nets 2k and 2k + 1 are of class k.
+// The design of these parts.
 pub(crate) fn full_design(alloc: Global) -> Result<Design, AllocError> {
-    let mut layers = Names::new(alloc);
-    layers.push(Row::from_slice(alloc, b"F.Cu".as_slice())?)?;
-    let mut stacks = Stacks::new(alloc);
-    stacks.push(Padstack {
-        name: Row::from_slice(alloc, b"via".as_slice())?,
-        shapes: spots(alloc, &[0, 1])?,
-    })?;
-    let mut outline = Areas::new(alloc);
-    outline.push(Points::from_slice(alloc, &[pt(0, 0), pt(9, 0), pt(0, 9)])?)?;
-    let parts = Parts {
-        name: Row::from_slice(alloc, b"s.dsn".as_slice())?,
-        layers,
-        stacks,
-        nets: nets(alloc, &[0, 0, 1, 1, 2, 2, 3, 3, 4, 4])?,
-        classes: classes(alloc)?,
-        outline,
-        items: items(alloc)?,
-    };
-    Ok(Design { parts })
+    Design::of_parts(full_parts(alloc)?)
 }

@@ -1,5 +1,4 @@
 ghost use Rattle.std.specs.Prelude.{◌≡◌, ◌<◌, length};
-ghost use Rattle.board_rules.specs.Designs.{IsSound};
 
 use crate::Design;
 use crate::fits::fits_item;
@@ -141,7 +140,6 @@ fn the_closest_statement_is_the_clearance(rt: HostRuntime) -> Result<(), Fail> {
 
 /// What `pair_keeps` answers, or None where its condition isn't met.
 fn keeps<L: Ledger>(design: &Design, a: ItemView<'_>, b: ItemView<'_>, blank: Blank) -> Option<bool>
-    requires design { IsSound design.now.parts }
     requires name { blank.name ≡ L.name }
     requires parts { blank.parts ≡ L.parts }
     requires some { 0 < blank.parts }
@@ -175,9 +173,7 @@ fn pairs() -> [(bool, u32, i64, bool); 5] {
 
 #[test]
 fn a_pair_keeps_its_clearance_and_no_more(rt: HostRuntime) -> Result<(), Fail> {
-    let design = Design {
-        parts: sound_parts(rt.alloc())?,
-    };
+    let design = Design::of_parts(sound_parts(rt.alloc())?)?;
     let way = [pt(0, 0), pt(1_000_000, 0)];
     for (is_via, net, y, want) in pairs() {
         let points = [pt(0, y), pt(1_000_000, y)];
@@ -192,7 +188,6 @@ fn a_pair_keeps_its_clearance_and_no_more(rt: HostRuntime) -> Result<(), Fail> {
 }
 
 fn reads(design: &Design) -> bool
-    requires sound { IsSound design.now.parts }
     requires layers { length design.now.parts.layers ≡ 2 }
     requires nets { length design.now.parts.nets ≡ 2 }
 {
@@ -207,13 +202,8 @@ fn reads(design: &Design) -> bool
 }
 
 fn readers_hold(alloc: Global) -> Result<bool, AllocError> {
-    let parts = sound_parts(alloc)?;
-    Ok(reads(&Design { parts }))
-}
-
-fn has_its_name(alloc: Global) -> Result<bool, AllocError> {
     let design = Design::of_parts(sound_parts(alloc)?)?;
-    Ok(design.name().as_slice() == b"s.dsn".as_slice())
+    Ok(reads(&design))
 }
 
 fn written(design: &Design, alloc: Global) -> Result<String, AllocError> {
@@ -223,7 +213,7 @@ fn written(design: &Design, alloc: Global) -> Result<String, AllocError> {
 // Whether a copy says the same of all that a design is made of.
 fn copies_alike(alloc: Global) -> Result<bool, AllocError> {
     let design = full_design(alloc)?;
-    let copied = design.copy(alloc)?;
+    let copied = design.copy()?;
     let text = written(&design, alloc)?;
     Ok(written(&copied, alloc)? == text)
 }
@@ -232,6 +222,5 @@ fn copies_alike(alloc: Global) -> Result<bool, AllocError> {
 fn a_copy_is_equal(rt: HostRuntime) -> Result<(), Fail> {
     assert!(rt; copies_alike(rt.alloc())?, "a copy");
     assert!(rt; readers_hold(rt.alloc())?, "what each reader says");
-    assert!(rt; has_its_name(rt.alloc())?, "its name");
     Ok(())
 }

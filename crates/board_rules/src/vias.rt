@@ -6,41 +6,10 @@ ghost use Rattle.area_geometry.specs.Copper.{Copper, core_points, moved, placed}
 ghost use Rattle.area_geometry.specs.declared.shapes.Shape.{Shape};
 ghost use Rattle.board_items.specs.Shapes.{shapes_of};
 ghost use Rattle.board_rules.specs.Classes.{list_of, vias_of, width_of, class_of};
-ghost use Rattle.board_rules.specs.Designs.{IsSound};
 
-use crate::design::{ClassRow, Parts};
-use area_geometry::{Core, Shape};
+use crate::design::{ClassRow, Design};
+use area_geometry::{Shape, points_of};
 use seg_geometry::{Ids, Pt, in_range};
-
-// The class of a net.
-fn class_row(parts: &Parts, net: u32) -> &ClassRow
-    requires sound { IsSound parts.now }
-    requires there { net < length parts.now.nets }
-    ensures { slice_get parts.now.classes (class_of parts.now (Some net)) ≡ Some result.now }
-{
-    let class = parts.nets.get(net as usize).class;
-    parts.classes.get(class as usize)
-}
-
-// The class that holds where a net's own states nothing.
-fn structure_row(parts: &Parts) -> &ClassRow
-    requires { IsSound parts.now }
-    ensures { slice_get parts.now.classes 0 ≡ Some result.now }
-{
-    parts.classes.get(0)
-}
-
-// The least width of a net's wires, in nm.
-pub(crate) fn least_width(parts: &Parts, net: u32) -> u32
-    requires sound { IsSound parts.now }
-    requires there { net < length parts.now.nets }
-    ensures { result ≡ width_of parts.now net }
-{
-    match class_row(parts, net).width {
-        Some(width) => width,
-        None => structure_row(parts).width.unwrap_or(0),
-    }
-}
 
 // Whether a padstack is in a class's list, or in the structure's where the class has none.
 fn is_listed(own: &Option<Ids>, common: &Option<Ids>, padstack: u32) -> bool
@@ -53,19 +22,6 @@ fn is_listed(own: &Option<Ids>, common: &Option<Ids>, padstack: u32) -> bool
             None => false,
         },
     }
-}
-
-// Whether the vias of a net may have a padstack.
-pub(crate) fn may_have(parts: &Parts, net: u32, padstack: u32) -> bool
-    requires sound { IsSound parts.now }
-    requires there { net < length parts.now.nets }
-    ensures { IsTrue result ↔ Contains (vias_of parts.now net) padstack }
-{
-    is_listed(
-        &class_row(parts, net).vias,
-        &structure_row(parts).vias,
-        padstack,
-    )
 }
 
 // Whether a point that is moved by another is in range.
@@ -94,16 +50,6 @@ fn points_in_range(points: &[Pt], at: Pt) -> bool
     true
 }
 
-// The points of a core.
-fn points_of(core: &Core) -> &[Pt]
-    ensures { result.now ≡ core_points core.now }
-{
-    match core {
-        Core::Chain(points) => points.as_slice(),
-        Core::Area(points) => points.as_slice(),
-    }
-}
-
 // Whether all points of shapes that are moved by a point are in range.
 fn shapes_in_range(shapes: &[Shape], at: Pt) -> bool
     requires shapes_in { AllByRecursion (λ (s : Shape). AllByRecursion IsInRange (core_points s.core)) shapes.now }
@@ -118,13 +64,50 @@ fn shapes_in_range(shapes: &[Shape], at: Pt) -> bool
     true
 }
 
-// Whether all points of a via of this padstack are in range at a place.
-pub(crate) fn via_in_range(parts: &Parts, padstack: u32, at: Pt) -> bool
-    requires sound { IsSound parts.now }
-    requires there { padstack < length parts.now.stacks }
-    requires at_in { IsInRange at }
-    ensures { IsTrue result ↔ All (λ (s : Copper). All IsInRange s.points) (map (placed at) (shapes_of (slice_get parts.now.stacks padstack))) }
-{
-    let stack = parts.stacks.get(padstack as usize);
-    shapes_in_range(stack.shapes.as_slice(), at)
+impl Design {
+    // The class of a net.
+    fn class_row(&self, net: u32) -> &ClassRow
+        requires { net < length self.now.parts.nets }
+        ensures { slice_get self.now.parts.classes (class_of self.now.parts (Some net)) ≡ Some result.now }
+    {
+        let class = self.parts.nets.get(net as usize).class;
+        self.parts.classes.get(class as usize)
+    }
+
+    // The class that holds where a net's own states nothing.
+    fn structure_row(&self) -> &ClassRow
+        ensures { slice_get self.now.parts.classes 0 ≡ Some result.now }
+    {
+        self.parts.classes.get(0)
+    }
+
+    // The least width of a net's wires, in nm.
+    pub(crate) fn least_width(&self, net: u32) -> u32
+        requires { net < length self.now.parts.nets }
+        ensures { result ≡ width_of self.now.parts net }
+    {
+        match self.class_row(net).width {
+            Some(width) => width,
+            None => self.structure_row().width.unwrap_or(0),
+        }
+    }
+
+    // Whether the vias of a net may have a padstack.
+    pub(crate) fn may_have(&self, net: u32, padstack: u32) -> bool
+        requires { net < length self.now.parts.nets }
+        ensures { IsTrue result ↔ Contains (vias_of self.now.parts net) padstack }
+    {
+        let own = &self.class_row(net).vias;
+        is_listed(own, &self.structure_row().vias, padstack)
+    }
+
+    // Whether all points of a via of this padstack are in range at a place.
+    pub(crate) fn via_in_range(&self, padstack: u32, at: Pt) -> bool
+        requires there { padstack < length self.now.parts.stacks }
+        requires at_in { IsInRange at }
+        ensures { IsTrue result ↔ All (λ (s : Copper). All IsInRange s.points) (map (placed at) (shapes_of (slice_get self.now.parts.stacks padstack))) }
+    {
+        let stack = self.parts.stacks.get(padstack as usize);
+        shapes_in_range(stack.shapes.as_slice(), at)
+    }
 }

@@ -9,10 +9,10 @@ use Rattle.board_rules.proofs.fits.all_fit.Goals as goal
 
 pub loop-i-preserved : goal.loop-i-preserved
 loop-i-preserved c =
-    All-walked IsWithinLimits (copper_of_item c.args.stacks.now (item_seen c.args.item)) c.loop-i.i (copper_of c.shape_at.result) c.shape_at.ensures c.loop-i.invariant (c.if-not-fits.ensures refl)
+    All-walked IsWithinLimits (copper_of_item c.args.stacks.now (item_seen c.args.item)) c.loop-i.i (copper_of c.shape_at.result) c.shape_at.ensures c.loop-i.invariant (c.if-not-is_within_limits.ensures.0 refl)
 
 pub returns : goal.returns
 returns c =
     let all = copper_of_item c.args.stacks.now (item_seen c.args.item) in
-    let past : length all ≤ c.loop-i.i = omega (arith, c.loop-i-test.false, c.shape_count-i-end.ensures) in
+    let past : length all ≤ c.loop-i.i = omega (arith, c.loop-i-test.false, c.shape_count-i-end.ensures.few c.requires) in
     λ _. All-same IsWithinLimits all (take c.loop-i.i all) (sym (take_all _ _ past)) c.loop-i.invariant
