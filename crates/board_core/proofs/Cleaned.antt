@@ -7,28 +7,26 @@ use Rattle.board_items.specs.declared.items.ItemId.{ItemId}
 use Rattle.board_rules.specs.declared.design.Parts.{Parts}
 use Rattle.board_rules.specs.Needs.{KeepsNeed}
 use Rattle.board_rules.proofs.Walked.{left_is}
-use Rattle.board_core.specs.declared.live.Live.{Live}
-use Rattle.board_core.specs.Lives.{numbered}
-use Rattle.board_core.specs.Finds.{IsFound}
+use Rattle.number_slots.specs.Slots.{numbered, IsAt}
 use Rattle.board_core.specs.Clean.{IsCleanBoard, IsLeastPair, IsNearest, KeepsAll}
 
 -- what is told of an item and the live ones
-abbrev pub Nearest : Parts → Item → List Live → Option ItemId → Type 0
+abbrev pub Nearest : Parts → Item → List (ℕ × Item) → Option ItemId → Type 0
 Nearest p x live None = KeepsAll p x live
 Nearest p x live (Some b) = IsNearest p x live b.0
 
 -- what is told of all live items
-abbrev pub Told : Parts → List Live → Option (ItemId × ItemId) → Type 0
+abbrev pub Told : Parts → List (ℕ × Item) → Option (ItemId × ItemId) → Type 0
 Told p live None = IsCleanBoard p live
 Told p live (Some pair) = IsLeastPair p live pair.0.0 pair.1.0
 
 -- no number of a numbered list lies below its first one
-pub from_first : (n : ℕ) (items : List Item) (d : ℕ) (y : Item) → IsFound (numbered n items) d y → n ≤ d
+pub from_first : (n : ℕ) (items : List Item) (d : ℕ) (y : Item) → IsAt (numbered n items) d y → n ≤ d
 from_first n [] d y f = absurd f
 from_first n (x ∷ rest) d y (inl f) = omega (arith, f.0)
 from_first n (x ∷ rest) d y (inr f) = omega (arith, from_first (n + 1) rest d y f)
 
-keeps_one : (p : Parts) (x : Item) (n : ℕ) (y : Item) (rest : List Item) (d : ℕ) (z : Item) → KeepsNeed p x y → IsFound (numbered n (y ∷ rest)) d z → (IsFound (numbered (n + 1) rest) d z → KeepsNeed p x z) → KeepsNeed p x z
+keeps_one : (p : Parts) (x : Item) (n : ℕ) (y : Item) (rest : List Item) (d : ℕ) (z : Item) → KeepsNeed p x y → IsAt (numbered n (y ∷ rest)) d z → (IsAt (numbered (n + 1) rest) d z → KeepsNeed p x z) → KeepsNeed p x z
 keeps_one p x n y rest d z keeps (inl f) more = subst (KeepsNeed p x) f.1 keeps
 keeps_one p x n y rest d z keeps (inr f) more = more f
 
@@ -42,7 +40,7 @@ keeps_on p x n y rest (Some b) keeps h = record {
   least = λ d z lt f. keeps_one p x n y rest d z keeps f (λ g. h.least d z lt g);
 }
 
-below_first : (n : ℕ) (items : List Item) (d : ℕ) (y : Item) → d < n → IsFound (numbered n items) d y → ⊥
+below_first : (n : ℕ) (items : List Item) (d : ℕ) (y : Item) → d < n → IsAt (numbered n items) d y → ⊥
 below_first n items d y lt f = let le = from_first n items d y f in absurd (omega arith)
 
 -- the first item, where it isn't kept
@@ -54,8 +52,8 @@ near_here p x n y rest near = record {
   least = λ d z lt f. absurd (below_first n (y ∷ rest) d z lt f);
 }
 
-clean_one : (p : Parts) (n : ℕ) (x : Item) (rest : List Item) (a b : ℕ) (y z : Item) → a < b → KeepsAll p x (numbered (n + 1) rest) → IsFound (numbered n (x ∷ rest)) a y → IsFound (numbered n (x ∷ rest)) b z
-    → (IsFound (numbered (n + 1) rest) a y → IsFound (numbered (n + 1) rest) b z → KeepsNeed p y z) → KeepsNeed p y z
+clean_one : (p : Parts) (n : ℕ) (x : Item) (rest : List Item) (a b : ℕ) (y z : Item) → a < b → KeepsAll p x (numbered (n + 1) rest) → IsAt (numbered n (x ∷ rest)) a y → IsAt (numbered n (x ∷ rest)) b z
+    → (IsAt (numbered (n + 1) rest) a y → IsAt (numbered (n + 1) rest) b z → KeepsNeed p y z) → KeepsNeed p y z
 clean_one p n x rest a b y z lt keeps (inl f) (inl g) more = absurd (omega (arith, f.0, g.0))
 clean_one p n x rest a b y z lt keeps (inl f) (inr g) more = subst (λ (w : Item). KeepsNeed p w z) f.1 (keeps b z g)
 clean_one p n x rest a b y z lt keeps (inr f) (inl g) more = let le = from_first (n + 1) rest a y f in absurd (omega (arith, g.0))
@@ -74,7 +72,7 @@ clean_on p n x rest (Some pair) keeps h = record {
   least = λ c d y z lt before f g. clean_one p n x rest c d y z lt keeps f g (λ k l. h.least c d y z lt before k l);
 }
 
-none_before : (p : Parts) (n : ℕ) (x : Item) (rest : List Item) (b : ℕ) → IsNearest p x (numbered (n + 1) rest) b → (c d : ℕ) (y z : Item) → c < d → (c < n) ⊎ ((c ≡ n) × (d < b)) → IsFound (numbered n (x ∷ rest)) c y → IsFound (numbered n (x ∷ rest)) d z → KeepsNeed p y z
+none_before : (p : Parts) (n : ℕ) (x : Item) (rest : List Item) (b : ℕ) → IsNearest p x (numbered (n + 1) rest) b → (c d : ℕ) (y z : Item) → c < d → (c < n) ⊎ ((c ≡ n) × (d < b)) → IsAt (numbered n (x ∷ rest)) c y → IsAt (numbered n (x ∷ rest)) d z → KeepsNeed p y z
 none_before p n x rest b h c d y z lt (inl low) f g = absurd (below_first n (x ∷ rest) c y low f)
 none_before p n x rest b h c d y z lt (inr same) (inl f) (inl g) = absurd (omega (arith, f.0, g.0))
 none_before p n x rest b h c d y z lt (inr same) (inl f) (inr g) = subst (λ (w : Item). KeepsNeed p w z) f.1 (h.least d z same.1 g)

@@ -1,131 +1,160 @@
--- A board with one more edit is a board of its design.
-use Rattle.std.proofs.Common.{◌≡◌, ℕ, zero, suc, ◌+◌, ◌<◌, ◌≤◌, List, [], ◌∷◌, ◌++◌, length, refl, sym, ap, subst, ◌∙◌, arith}
-use Rattle.std.specs.Prelude.{Bool, true, false, not, nat_le, ◌==◌}
-use Rattle.std.specs.List.{AllByRecursion, filter, list_any}
+-- A board with one more entry is a board of its design, and the next one of its journal.
+use Rattle.std.proofs.Common.{◌≡◌, ℕ, zero, suc, ◌+◌, ◌<◌, ◌≤◌, List, [], ◌∷◌, ◌++◌, length, refl, sym, ap, subst, ◌∙◌, arith, take}
+use Rattle.std.specs.Prelude.{Bool, true, false, not, nat_le, Option, Some, map, slice_get, Result, Ok, Err, OnOk, IfOk, None, IfSome, IfNone}
+use Rattle.std.specs.List.{AllByRecursion}
+use Rattle.std.proofs.lemmas.Bool.{le-leb, lt-leb}
 use Rattle.board_items.specs.declared.items.Item.{Item}
 use Rattle.board_items.specs.declared.requests.Add.{Add}
+use Rattle.board_items.specs.declared.requests.Request.TheVariants as requests
+use Rattle.board_items.specs.declared.history.Act.{Act}
+use Rattle.board_items.specs.declared.history.Act.TheVariants as acts
+use Rattle.board_items.specs.declared.history.Entry.{Entry}
 use Rattle.board_items.specs.Adds.{item_of_add, layer_of_add}
 use Rattle.board_rules.specs.declared.design.Parts.{Parts}
 use Rattle.board_rules.specs.Designs.{IsFitItem}
-use Rattle.board_core.specs.declared.live.Live.{Live}
-use Rattle.board_core.specs.declared.board.Board.{Board}
-use Rattle.board_core.specs.Lives.{without, made_of, made_from, live_as, is_among, IsRisingFrom, numbered}
-use Rattle.board_core.specs.Boards.{IsBoardOf, edited, first_board}
 use Rattle.board_rules.specs.FitAdds.{IsFitAdd}
+use Rattle.number_slots.specs.Slots.{is_among, without, numbered, there}
+use Rattle.board_core.specs.Boards.{Board, IsSameBoard, IsBoardOf, made_of, made_from, edited, after, folded, board_at, first_board, HasFitAct}
+use Rattle.board_core.specs.Made.{made_item}
 
-abbrev Stays : List ℕ → Live → Bool
-Stays ids l = not (is_among l.id.0 ids)
+-- ---- slots and what stands in them
+
+made_one : (n : ℕ) (a : Add) (rest : List (Option Item)) (b : Bool) → nat_le (layer_of_add a) 255 ≡ b → there n (made_item a ∷ rest) ≡ made_of n a ++ there (n + 1) rest
+made_one n a rest true e = rw e refl
+made_one n a rest false e = rw e refl
+
+-- a slot with what an add makes
+slot_told : (a : Add) (o : Option Item) → IfSome o (λ (i : Item). i ≡ item_of_add a) → IfSome o (λ (i : Item). layer_of_add a ≤ 255) → IfNone o (255 < layer_of_add a) → o ≡ made_item a
+slot_told a None is le past = let e : nat_le (layer_of_add a) 255 ≡ false = lt-leb (layer_of_add a) 255 past in rw e refl
+slot_told a (Some i) is le past = let e : nat_le (layer_of_add a) 255 ≡ true = le-leb (layer_of_add a) 255 le in rw e (ap Some is)
+
+pub slots_told : {E : Type 0} (a : Add) (r : Result (Option Item) E) → IfOk r (λ o. IfSome o (λ (i : Item). i ≡ item_of_add a)) → IfOk r (λ o. IfSome o (λ (i : Item). layer_of_add a ≤ 255)) → IfOk r (λ o. IfNone o (255 < layer_of_add a)) → IfOk r (λ o. o ≡ made_item a)
+slots_told a (Ok o) is le past = slot_told a o is le past
+slots_told a (Err e) is le past = tt
+
+-- slots with what adds make
+pub there_made : (n : ℕ) (adds : List Add) → there n (map made_item adds) ≡ made_from n adds
+there_made n [] = refl
+there_made n (a ∷ rest) = made_one n a (map made_item rest) (nat_le (layer_of_add a) 255) refl ∙ ap (λ (ys : List (ℕ × Item)). made_of n a ++ ys) (there_made (n + 1) rest)
+
+-- slots with items
+pub there_loaded : (n : ℕ) (items : List Item) → there n (map Some items) ≡ numbered n items
+there_loaded n [] = refl
+there_loaded n (i ∷ rest) = ap (λ (ys : List (ℕ × Item)). (n, i) ∷ ys) (there_loaded (n + 1) rest)
+
+pub as_many : {A B : Type 0} (f : A → B) (xs : List A) → length (map f xs) ≡ length xs
+as_many f [] = refl
+as_many f (x ∷ xs) = ap suc (as_many f xs)
 
 -- ---- what holds of each item holds of each that is left
 
-kept_one : (P : Live → Type 0) (ids : List ℕ) (l : Live) (rest : List Live) (b : Bool) → Stays ids l ≡ b → P l → AllByRecursion P (without ids rest) → AllByRecursion P (without ids (l ∷ rest))
-kept_one P ids l rest true e here more = rw e (here, more)
-kept_one P ids l rest false e here more = rw e more
+abbrev AreFit : Parts → List (ℕ × Item) → Type 0
+AreFit p live = AllByRecursion (λ (l : ℕ × Item). IsFitItem p l.1) live
 
-kept_all : (P : Live → Type 0) (ids : List ℕ) (live : List Live) → AllByRecursion P live → AllByRecursion P (without ids live)
-kept_all P ids [] all = tt
-kept_all P ids (l ∷ rest) all = kept_one P ids l rest (Stays ids l) refl all.0 (kept_all P ids rest all.1)
+kept_one : (p : Parts) (ids : List ℕ) (l : ℕ × Item) (rest : List (ℕ × Item)) (b : Bool) → not (is_among l.0 ids) ≡ b → IsFitItem p l.1 → AreFit p (without ids rest) → AreFit p (without ids (l ∷ rest))
+kept_one p ids l rest true e here more = rw e (here, more)
+kept_one p ids l rest false e here more = rw e more
 
--- ---- numbers that rise
+kept_all : (p : Parts) (ids : List ℕ) (live : List (ℕ × Item)) → AreFit p live → AreFit p (without ids live)
+kept_all p ids [] all = tt
+kept_all p ids (l ∷ rest) all = kept_one p ids l rest (not (is_among l.0 ids)) refl all.0 (kept_all p ids rest all.1)
 
-from_lower : (n m : ℕ) (live : List Live) → n ≤ m → IsRisingFrom m live → IsRisingFrom n live
-from_lower n m [] le r = tt
-from_lower n m (l ∷ rest) le r = (omega (arith, r.0), r.1)
-
-rising_one : (n : ℕ) (ids : List ℕ) (l : Live) (rest : List Live) (b : Bool) → Stays ids l ≡ b → n ≤ l.id.0 → IsRisingFrom (l.id.0 + 1) (without ids rest) → IsRisingFrom n (without ids (l ∷ rest))
-rising_one n ids l rest true e le more = rw e (le, more)
-rising_one n ids l rest false e le more = rw e (from_lower n (l.id.0 + 1) (without ids rest) (omega arith) more)
-
-rising_left : (n : ℕ) (ids : List ℕ) (live : List Live) → IsRisingFrom n live → IsRisingFrom n (without ids live)
-rising_left n ids [] r = tt
-rising_left n ids (l ∷ rest) r = rising_one n ids l rest (Stays ids l) refl r.0 (rising_left (l.id.0 + 1) ids rest r.1)
-
-rising_append : (n m : ℕ) (xs ys : List Live) → n ≤ m → IsRisingFrom n xs → AllByRecursion (λ (l : Live). l.id.0 < m) xs → IsRisingFrom m ys → IsRisingFrom n (xs ++ ys)
-rising_append n m [] ys le r low more = from_lower n m ys le more
-rising_append n m (x ∷ xs) ys le r low more = (r.0, rising_append (x.id.0 + 1) m xs ys (omega (arith, low.0)) r.1 low.1 more)
-
--- ---- what adds make
-
-is_made : (n : ℕ) (a : Add) (P : List Live → Type 0) (b : Bool) → nat_le (layer_of_add a) 255 ≡ b → P (live_as n (item_of_add a) ∷ []) → P [] → P (made_of n a)
+is_made : (n : ℕ) (a : Add) (P : List (ℕ × Item) → Type 0) (b : Bool) → nat_le (layer_of_add a) 255 ≡ b → P ((n, item_of_add a) ∷ []) → P [] → P (made_of n a)
 is_made n a P true e one none = rw e one
 is_made n a P false e one none = rw e none
 
-made_rises : (n : ℕ) (adds : List Add) → IsRisingFrom n (made_from n adds)
-made_rises n [] = tt
-made_rises n (a ∷ rest) =
-    let more = made_rises (n + 1) rest in
-    is_made n a (λ (ls : List Live). IsRisingFrom n (ls ++ made_from (n + 1) rest)) (nat_le (layer_of_add a) 255) refl (omega arith, more) (from_lower n (n + 1) (made_from (n + 1) rest) (omega arith) more)
-
-made_below : (n m : ℕ) (adds : List Add) → n + length adds ≤ m → AllByRecursion (λ (l : Live). l.id.0 < m) (made_from n adds)
-made_below n m [] le = tt
-made_below n m (a ∷ rest) le =
-    let more = made_below (n + 1) m rest (omega arith) in
-    is_made n a (λ (ls : List Live). AllByRecursion (λ (l : Live). l.id.0 < m) (ls ++ made_from (n + 1) rest)) (nat_le (layer_of_add a) 255) refl (omega arith, more) more
-
-made_fit : (p : Parts) (n : ℕ) (adds : List Add) → AllByRecursion (IsFitAdd p) adds → AllByRecursion (λ (l : Live). IsFitItem p l.item) (made_from n adds)
+made_fit : (p : Parts) (n : ℕ) (adds : List Add) → AllByRecursion (IsFitAdd p) adds → AreFit p (made_from n adds)
 made_fit p n [] fit = tt
 made_fit p n (a ∷ rest) fit =
     let more = made_fit p (n + 1) rest fit.1 in
-    is_made n a (λ (ls : List Live). AllByRecursion (λ (l : Live). IsFitItem p l.item) (ls ++ made_from (n + 1) rest)) (nat_le (layer_of_add a) 255) refl (fit.0.item, more) more
+    is_made n a (λ (ls : List (ℕ × Item)). AreFit p (ls ++ made_from (n + 1) rest)) (nat_le (layer_of_add a) 255) refl (fit.0.item, more) more
 
-all_append : (P : Live → Type 0) (xs ys : List Live) → AllByRecursion P xs → AllByRecursion P ys → AllByRecursion P (xs ++ ys)
-all_append P [] ys a b = b
-all_append P (x ∷ xs) ys a b = (a.0, all_append P xs ys a.1 b)
+fit_append : (p : Parts) (xs ys : List (ℕ × Item)) → AreFit p xs → AreFit p ys → AreFit p (xs ++ ys)
+fit_append p [] ys a b = b
+fit_append p (x ∷ xs) ys a b = (a.0, fit_append p xs ys a.1 b)
 
-lower_all : (n m : ℕ) (live : List Live) → n ≤ m → AllByRecursion (λ (l : Live). l.id.0 < n) live → AllByRecursion (λ (l : Live). l.id.0 < m) live
-lower_all n m [] le all = tt
-lower_all n m (l ∷ rest) le all = (omega (arith, all.0), lower_all n m rest le all.1)
+-- ---- boards that are the same
 
-left_one : (ids : List ℕ) (l : Live) (rest : List Live) (b : Bool) → Stays ids l ≡ b → length (without ids rest) ≤ length rest → length (without ids (l ∷ rest)) ≤ suc (length rest)
-left_one ids l rest true e le = rw e (omega arith)
-left_one ids l rest false e le = rw e (omega arith)
+pub same_of : (p : Parts) (b c : Board) → IsSameBoard b c → IsBoardOf p c → IsBoardOf p b
+same_of p b c same is = record { fit = subst (AreFit p) (sym same.live) is.fit }
 
--- no more items are left than there were
-pub fewer_left : (ids : List ℕ) (live : List Live) → length (without ids live) ≤ length live
-fewer_left ids [] = omega arith
-fewer_left ids (l ∷ rest) = left_one ids l rest (Stays ids l) refl (fewer_left ids rest)
+pub same_then : (a b c : Board) → IsSameBoard a b → IsSameBoard b c → IsSameBoard a c
+same_then a b c s t = record { live = s.live ∙ t.live; next_id = s.next_id ∙ t.next_id; count = s.count ∙ t.count }
 
--- adds make no more items than they are
-pub fewer_made : (n : ℕ) (adds : List Add) → length (made_from n adds) ≤ length adds
-fewer_made n [] = omega arith
-fewer_made n (a ∷ rest) =
-    let more = fewer_made (n + 1) rest in
-    is_made n a (λ (ls : List Live). length (ls ++ made_from (n + 1) rest) ≤ length (a ∷ rest)) (nat_le (layer_of_add a) 255) refl (omega arith) (omega arith)
+-- the same act leads from the same board to the same
+pub same_after : (b c : Board) (client : ℕ) (act : Act) → IsSameBoard b c → IsSameBoard (after b client act) (after c client act)
+same_after b c client acts.Leave same = record { live = same.live; next_id = same.next_id; count = ap (λ (n : ℕ). n + 1) same.count }
+same_after b c client (acts.Ask (requests.Edit deletes adds)) same = record {
+  live = (λ i. without deletes (same.live i) ++ made_from (same.next_id i) adds);
+  next_id = ap (λ (n : ℕ). n + length adds) same.next_id;
+  count = ap (λ (n : ℕ). n + 1) same.count;
+}
+same_after b c client (acts.Ask (requests.Reserve id)) same = record { live = same.live; next_id = same.next_id; count = ap (λ (n : ℕ). n + 1) same.count }
+same_after b c client (acts.Ask (requests.Release id)) same = record { live = same.live; next_id = same.next_id; count = ap (λ (n : ℕ). n + 1) same.count }
+same_after b c client (acts.Ask (requests.Fence layers area clients)) same = record { live = same.live; next_id = same.next_id; count = ap (λ (n : ℕ). n + 1) same.count }
+same_after b c client (acts.Ask (requests.Unfence fence)) same = record { live = same.live; next_id = same.next_id; count = ap (λ (n : ℕ). n + 1) same.count }
+same_after b c client (acts.Ask (requests.Entitle fence other)) same = record { live = same.live; next_id = same.next_id; count = ap (λ (n : ℕ). n + 1) same.count }
 
--- a board of a design, after an edit whose adds are fit
-pub grown : (p : Parts) (b : Board) (deletes : List ℕ) (adds : List Add) → 1 ≤ b.next_id → IsBoardOf p b → AllByRecursion (IsFitAdd p) adds → IsBoardOf p (edited b deletes adds)
-grown p b deletes adds some is fit =
-    let below = kept_all (λ (l : Live). l.id.0 < b.next_id) deletes b.live is.below in
-    record {
-      rising = rising_append 1 b.next_id (without deletes b.live) (made_from b.next_id adds) some (rising_left 1 deletes b.live is.rising) below (made_rises b.next_id adds);
-      below = all_append (λ (l : Live). l.id.0 < b.next_id + length adds) (without deletes b.live) (made_from b.next_id adds)
-          (lower_all b.next_id (b.next_id + length adds) (without deletes b.live) (omega arith) below) (made_below b.next_id (b.next_id + length adds) adds (omega arith));
-      fit = all_append (λ (l : Live). IsFitItem p l.item) (without deletes b.live) (made_from b.next_id adds) (kept_all (λ (l : Live). IsFitItem p l.item) deletes b.live is.fit) (made_fit p b.next_id adds fit);
-    }
+-- ---- one entry more
+
+-- a board of a design, after an act with fit adds
+pub grown : (p : Parts) (b : Board) (client : ℕ) (act : Act) → IsBoardOf p b → HasFitAct p act → IsBoardOf p (after b client act)
+grown p b client acts.Leave is fit = record { fit = is.fit }
+grown p b client (acts.Ask (requests.Edit deletes adds)) is fit = record { fit = fit_append p (without deletes b.live) (made_from b.next_id adds) (kept_all p deletes b.live is.fit) (made_fit p b.next_id adds fit) }
+grown p b client (acts.Ask (requests.Reserve id)) is fit = record { fit = is.fit }
+grown p b client (acts.Ask (requests.Release id)) is fit = record { fit = is.fit }
+grown p b client (acts.Ask (requests.Fence layers area clients)) is fit = record { fit = is.fit }
+grown p b client (acts.Ask (requests.Unfence fence)) is fit = record { fit = is.fit }
+grown p b client (acts.Ask (requests.Entitle fence other)) is fit = record { fit = is.fit }
+
+pub grown_same : (p : Parts) (b c : Board) (client : ℕ) (act : Act) → IsSameBoard c (after b client act) → IsBoardOf p b → HasFitAct p act → IsBoardOf p c
+grown_same p b c client act same is fit = same_of p c (after b client act) same (grown p b client act is fit)
+
+folded_step : (b : Board) (journal : List Entry) (k : ℕ) (e : Entry) → slice_get journal k ≡ Some e → folded b (take (suc k) journal) ≡ after (folded b (take k journal)) e.client e.act
+folded_step b [] k e at_k = absurd (cc)
+folded_step b (x ∷ rest) zero e at_k = let same : x ≡ e = cc in ap (λ (y : Entry). after b y.client y.act) same
+folded_step b (x ∷ rest) (suc k) e at_k = folded_step (after b x.client x.act) rest k e at_k
+
+-- from the board after k entries to that after k + 1
+pub next_board : (p : Parts) (journal : List Entry) (k : ℕ) (e : Entry) (b c : Board) → slice_get journal k ≡ Some e → IsSameBoard c (after b e.client e.act) → IsSameBoard b (board_at p journal k) → IsSameBoard c (board_at p journal (k + 1))
+next_board p journal k e b c at_k step same =
+    let on = same_after b (board_at p journal k) e.client e.act same in
+    let last : suc k ≡ k + 1 = omega arith in
+    let more : after (board_at p journal k) e.client e.act ≡ board_at p journal (k + 1) = sym (folded_step (first_board p) journal k e at_k) ∙ ap (λ (n : ℕ). board_at p journal n) last in
+    subst (IsSameBoard c) more (same_then c (after b e.client e.act) (after (board_at p journal k) e.client e.act) step on)
 
 -- ---- the first board
 
-numbered_rises : (n : ℕ) (items : List Item) → IsRisingFrom n (numbered n items)
-numbered_rises n [] = tt
-numbered_rises n (i ∷ rest) = (omega arith, numbered_rises (n + 1) rest)
-
-numbered_below : (n m : ℕ) (items : List Item) → n + length items ≤ m → AllByRecursion (λ (l : Live). l.id.0 < m) (numbered n items)
-numbered_below n m [] le = tt
-numbered_below n m (i ∷ rest) le = (omega arith, numbered_below (n + 1) m rest (omega arith))
-
-numbered_fit : (p : Parts) (n : ℕ) (items : List Item) → AllByRecursion (IsFitItem p) items → AllByRecursion (λ (l : Live). IsFitItem p l.item) (numbered n items)
+numbered_fit : (p : Parts) (n : ℕ) (items : List Item) → AllByRecursion (IsFitItem p) items → AreFit p (numbered n items)
 numbered_fit p n [] fit = tt
 numbered_fit p n (i ∷ rest) fit = (fit.0, numbered_fit p (n + 1) rest fit.1)
 
 -- the board before the first entry is one of its design
 pub first_fits : (p : Parts) → AllByRecursion (IsFitItem p) p.items → IsBoardOf p (first_board p)
-first_fits p fit = record {
-  rising = numbered_rises 1 p.items;
-  below = numbered_below 1 (length p.items + 1) p.items (omega arith);
-  fit = numbered_fit p 1 p.items fit;
+first_fits p fit = record { fit = numbered_fit p 1 p.items fit }
+
+-- ---- what the slots of a board hold
+
+pub on_ok : {A E : Type 0} (r : Result A E) (P Q : Type 0) → (P → Q) → OnOk r P → OnOk r Q
+on_ok (Ok x) P Q f h = f h
+on_ok (Err x) P Q f h = tt
+
+pub edit_same : (old new made : List (Option Item)) (count : ℕ) (deletes : List ℕ) (adds : List Add) → made ≡ map made_item adds → there 1 new ≡ without deletes (there 1 old) ++ there (length old + 1) made → length new ≡ length old + length made
+    → IsSameBoard (record { live = there 1 new; next_id = length new + 1; count = count + 1 }) (edited (record { live = there 1 old; next_id = length old + 1; count = count }) deletes adds)
+edit_same old new made count deletes adds is left longer = record {
+  live = left ∙ ap (λ (ys : List (Option Item)). without deletes (there 1 old) ++ there (length old + 1) ys) is ∙ ap (λ (ys : List (ℕ × Item)). without deletes (there 1 old) ++ ys) (there_made (length old + 1) adds);
+  next_id = let many : length made ≡ length adds = ap length is ∙ as_many made_item adds in omega (arith, longer, many);
+  count = refl;
 }
 
--- as many items are numbered as there are
-pub all_numbered : (n : ℕ) (items : List Item) → length (numbered n items) ≡ length items
-all_numbered n [] = refl
-all_numbered n (i ∷ rest) = ap suc (all_numbered (n + 1) rest)
+pub new_same : (p : Parts) (none new made : List (Option Item)) → none ≡ [] → made ≡ map Some p.items → there 1 new ≡ without [] (there 1 none) ++ there (length none + 1) made → length new ≡ length none + length made
+    → IsSameBoard (record { live = there 1 new; next_id = length new + 1; count = 0 }) (first_board p)
+new_same p none new made empty is left longer =
+    let first : there 1 new ≡ there 1 made = left ∙ ap (λ (ys : List (Option Item)). without [] (there 1 ys) ++ there (length ys + 1) made) empty in
+    let many : length made ≡ length p.items = ap length is ∙ as_many Some p.items in
+    let zero_ : length none ≡ 0 = ap length empty in
+    record {
+      live = first ∙ ap (λ (ys : List (Option Item)). there 1 ys) is ∙ there_loaded 1 p.items;
+      next_id = omega (arith, longer, many, zero_);
+      count = refl;
+    }

@@ -1,4 +1,4 @@
-pub mod Rising
-pub mod Reasons
 pub mod Growing
+pub mod Reasons
+pub mod Near
 pub mod Cleaned

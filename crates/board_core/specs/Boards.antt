@@ -1,39 +1,65 @@
 -- The board as a fold of the entries over plain lists.
-use Rattle.std.specs.Prelude.{◌≡◌, ℕ, ◌+◌, ◌<◌, ◌^◌, List, [], ◌∷◌, ◌++◌, length, take}
+-- Models: a board of numbered items, of which a journal's entries take some away and put others. Cited by the calls of
+-- `Board`. Reservations, boundaries and rules are further fields here; room that was made is the last one, if any.
+use Rattle.std.specs.Prelude.{◌≡◌, ℕ, ◌+◌, nat_le, if◌then◌else◌, List, [], ◌∷◌, ◌++◌, length, take}
 use Rattle.std.specs.List.{AllByRecursion}
+use Rattle.board_items.specs.declared.items.Item.{Item}
 use Rattle.board_items.specs.declared.requests.Add.{Add}
 use Rattle.board_items.specs.declared.requests.Request.{Request}
 use Rattle.board_items.specs.declared.requests.Request.TheVariants as requests
 use Rattle.board_items.specs.declared.history.Act.{Act}
 use Rattle.board_items.specs.declared.history.Act.TheVariants as acts
 use Rattle.board_items.specs.declared.history.Entry.{Entry}
+use Rattle.board_items.specs.Adds.{item_of_add, layer_of_add}
 use Rattle.board_rules.specs.declared.design.Parts.{Parts}
 use Rattle.board_rules.specs.Designs.{IsFitItem}
-use Rattle.board_core.specs.declared.live.Live.{Live}
-use Rattle.board_core.specs.declared.board.Board.{Board}
-use Rattle.board_core.specs.Lives.{without, made_from, numbered, IsRisingFrom}
+use Rattle.board_rules.specs.FitAdds.{HasFitAdds}
+use Rattle.number_slots.specs.Slots.{without, numbered}
+
+-- the live items with their numbers, in the order of these, the number that the next item gets, and the count of entries
+pub record Board : Type 0 where
+  pub live : List (ℕ × Item)
+  pub next_id : ℕ
+  pub count : ℕ
+
+-- two boards are the same but for room that was made
+pub record IsSameBoard (b c : Board) : Type 0 where
+  pub live : b.live ≡ c.live
+  pub next_id : b.next_id ≡ c.next_id
+  pub count : b.count ≡ c.count
 
 -- the board before the first entry: the loaded items, numbered from 1
 abbrev pub first_board : Parts → Board
 first_board p = record { live = numbered 1 p.items; next_id = length p.items + 1; count = 0 }
 
+-- what an add makes under a number; a wire on a layer above 255 makes nothing
+abbrev pub made_of : ℕ → Add → List (ℕ × Item)
+made_of n add = if nat_le (layer_of_add add) 255 then (n, item_of_add add) ∷ [] else []
+
+-- what adds make, each under the next number
+abbrev pub made_from : ℕ → List Add → List (ℕ × Item)
+made_from n [] = []
+made_from n (add ∷ rest) = made_of n add ++ made_from (n + 1) rest
+
 -- the board without the items of these numbers, and with what adds make at its end, under the next numbers
 abbrev pub edited : Board → List ℕ → List Add → Board
-edited b deletes adds = record { live = without deletes b.live ++ made_from b.next_id adds; next_id = b.next_id + length adds; count = b.count + 1 }
+edited b deletes adds =
+    record b { live = without deletes b.live ++ made_from b.next_id adds; next_id = b.next_id + length adds; count = b.count + 1 }
 
--- the board after one more act; all but edits leave the items
-abbrev pub requested : Board → Request → Board
-requested b (requests.Edit deletes adds) = edited b deletes adds
-requested b _ = record { live = b.live; next_id = b.next_id; count = b.count + 1 }
+-- the board after one more request of a client; all but edits leave the items
+abbrev pub requested : Board → ℕ → Request → Board
+requested b client (requests.Edit deletes adds) = edited b deletes adds
+requested b client _ = record b { count = b.count + 1 }
 
-abbrev pub after : Board → Act → Board
-after b (acts.Ask request) = requested b request
-after b acts.Leave = record { live = b.live; next_id = b.next_id; count = b.count + 1 }
+-- the board after one more act of a client
+abbrev pub after : Board → ℕ → Act → Board
+after b client (acts.Ask request) = requested b client request
+after b client acts.Leave = record b { count = b.count + 1 }
 
 -- the board after these entries, one after another
 abbrev pub folded : Board → List Entry → Board
 folded b [] = b
-folded b (e ∷ es) = folded (after b e.act) es
+folded b (e ∷ es) = folded (after b e.client e.act) es
 
 -- the board after the first k entries of a journal
 abbrev pub board_at : Parts → List Entry → ℕ → Board
@@ -48,8 +74,11 @@ abbrev pub taken_by : Act → ℕ
 taken_by (acts.Ask (requests.Edit deletes adds)) = length adds
 taken_by _ = 0
 
--- a board of a design: its numbers rise and lie below the next one, and its items are fit
+-- each live item is fit for the design
 pub record IsBoardOf (p : Parts) (b : Board) : Type 0 where
-  pub rising : IsRisingFrom 1 b.live
-  pub below : AllByRecursion (λ (l : Live). l.id.0 < b.next_id) b.live
-  pub fit : AllByRecursion (λ (l : Live). IsFitItem p l.item) b.live
+  pub fit : AllByRecursion (λ (l : ℕ × Item). IsFitItem p l.1) b.live
+
+-- the adds of an act are fit for the design
+abbrev pub HasFitAct : Parts → Act → Type 0
+HasFitAct p (acts.Ask request) = HasFitAdds p request
+HasFitAct p acts.Leave = Unit {0}

@@ -18,7 +18,7 @@ entry_of number client request = record { number = number; client = client; act 
 -- next entry; refused: there is this reason, and the journal stays; a request gets no other reply
 abbrev pub IsAnswered : Parts → ℕ → List Entry → ℕ → Request → Reply → List Entry → Type 0
 IsAnswered p clients journal client request (Done number) next =
-    IsAnswer p (last_board p journal) clients request None × (number ≡ length journal + 1) × (next ≡ journal ++ entry_of number client request ∷ [])
-IsAnswered p clients journal client request (No why) next = IsAnswer p (last_board p journal) clients request (Some why) × (next ≡ journal)
+    IsAnswer p clients (last_board p journal) client request None × (number ≡ length journal + 1) × (next ≡ journal ++ entry_of number client request ∷ [])
+IsAnswered p clients journal client request (No why) next = IsAnswer p clients (last_board p journal) client request (Some why) × (next ≡ journal)
 IsAnswered p clients journal client request Full next = ⊥
 IsAnswered p clients journal client request (Left number) next = ⊥

@@ -1,7 +1,8 @@
-pub mod Lives
-pub mod Finds
 pub mod Boards
-pub mod Clashes
+pub mod Made
 pub mod Clean
+pub mod Reasons
+pub mod Edits
 pub mod Answers
+pub mod Costs
 pub mod Journals

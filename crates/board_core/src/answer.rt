@@ -1,11 +1,12 @@
 //! What a request is answered, by testing every pair.
-ghost use Rattle.std.specs.Prelude.{◌≡◌, ◌≤◌, IfNone, length};
+ghost use Rattle.std.specs.Prelude.{◌≡◌, ◌+◌, ◌≤◌, IfNone, length, ℕ};
 ghost use Rattle.std.specs.List.{AllByRecursion};
 ghost use Rattle.board_items.specs.Formed.{IsFormed, IsEdit};
-ghost use Rattle.board_rules.specs.Designs.{IsSound};
-ghost use Rattle.board_core.specs.Boards.{IsBoardOf};
 ghost use Rattle.board_rules.specs.FitAdds.{IsFitAdd, HasFitAdds};
-ghost use Rattle.board_core.specs.Answers.{IsAnswer, IsBoardReason};
+ghost use Rattle.board_core.specs.Boards.{IsBoardOf};
+ghost use Rattle.board_core.specs.Edits.{IsBoardReason};
+ghost use Rattle.board_core.specs.Answers.{IsAnswer};
+ghost use Rattle.board_core.specs.Costs.{board_most, answer_most};
 
 use crate::board::Board;
 use crate::clashes::clash_why;
@@ -23,34 +24,35 @@ fn board_why<L: Ledger>(
     adds: &[Add],
     steps: &mut Steps<L>,
 ) -> Option<Why>
-    requires design { IsSound design.now.parts }
     requires board { IsBoardOf design.now.parts board.now }
     requires few { length adds.now ≤ 64 }
     requires fit { AllByRecursion (IsFitAdd design.now.parts) adds.now }
-    ensures { IsBoardReason design.now.parts board.now.live deletes.now adds.now result }
+    ensures reason { (client : ℕ) → IsBoardReason design.now.parts board.now client deletes.now adds.now result }
+    ensures cost { steps.new ≤ steps.old + board_most design.now.parts board.now.live deletes.now adds.now result }
 {
-    if let Some(why) = deletes_why(board.lives(), deletes) {
+    if let Some(why) = deletes_why(board, deletes) {
         return Some(why);
     }
-    clash_why(design, deletes, board.lives(), adds, steps)
+    clash_why(design, board, deletes, adds, steps)
 }
 
 /// What an edit of a client is answered on a board, for so many clients: the first reason against it, or none, by
-/// testing every pair. It takes no memory.
+/// testing every pair. An edit that is refused by itself or for its deletes is held against no live item. It takes no
+/// memory.
 pub fn slow_answer<L: Ledger>(
     design: &Design,
     board: &Board,
     clients: u8,
-    _client: u8,
+    client: u8,
     request: &Request,
     steps: &mut Steps<L>,
 ) -> Option<Why>
-    requires design { IsSound design.now.parts }
     requires board { IsBoardOf design.now.parts board.now }
     requires formed { IsFormed request.now }
     requires edit { IsEdit request.now }
-    ensures answer { IsAnswer design.now.parts board.now clients request.now result }
+    ensures answer { IsAnswer design.now.parts clients board.now client request.now result }
     ensures fits { IfNone result (HasFitAdds design.now.parts request.now) }
+    ensures cost { steps.new ≤ steps.old + answer_most design.now.parts board.now request.now result }
 {
     if let Some(why) = design.static_why(request, clients, steps) {
         return Some(why);

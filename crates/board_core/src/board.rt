@@ -1,99 +1,46 @@
 //! The board after some entries.
-ghost use Rattle.std.specs.Prelude.{◌≡◌, ◌+◌, ◌<◌, ◌≤◌, ◌^◌, ◌++◌, [], ◌∷◌, IfOk, OnOk, OnErr, IfSome, IfNone, slice_get, Some, None, length};
-ghost use Rattle.board_items.specs.Adds.{item_of_add, layer_of_add};
-ghost use Rattle.board_core.specs.Lives.{made_of, made_from, IsRisingFrom, IsLive, live_as};
-ghost use Rattle.board_core.specs.Boards.{first_board, edited, after, taken_by};
-ghost use Rattle.board_core.specs.Finds.{IsFound};
+ghost use Rattle.std.specs.Prelude.{◌≡◌, ◌+◌, ◌<◌, ◌≤◌, ◌^◌, ℕ, List, IfOk, OnOk, OnErr, IfSome, IfNone, slice_get, Some, length};
+ghost use Rattle.board_items.specs.declared.items.Item.{Item};
+ghost use Rattle.board_items.specs.declared.history.Entry.{Entry};
+ghost use Rattle.board_rules.specs.declared.design.Parts.{Parts};
+ghost use Rattle.number_slots.specs.Slots.{IsAt, IsThere, IsRisingFrom};
+ghost use Rattle.board_core.specs.Boards.{first_board, edited, after, board_at, taken_by, IsSameBoard, IsBoardOf, HasFitAct};
 
-use crate::find::find;
-use crate::live::{Live, Lives};
+use crate::made::{loaded, made};
 use board_items::{Act, Add, Entry, Item, ItemId, Request};
 use board_rules::Design;
+use number_slots::Slots;
 use std::alloc::{AllocError, Global};
+use std::marker::Model;
 
 /// The live items in the order of their numbers, the next number, and the count of entries.
 #[derive(Debug, Drop)]
 pub struct Board {
-    live: Lives,
-    next_id: u32,
+    items: Slots<Item>,
     count: u32,
 }
 
-// The item that an add makes, which isn't fixed; none where a wire's layer is above 255.
-fn item_of(add: &Add) -> Result<Option<Item>, AllocError>
-    ensures some { IfOk result (λ o. IfSome o (λ item. item ≡ item_of_add add.now)) }
-    ensures within { IfOk result (λ o. IfSome o (λ item. layer_of_add add.now ≤ 255)) }
-    ensures none { IfOk result (λ o. IfNone o (255 < layer_of_add add.now)) }
-{
-    match add {
-        Add::Wire {
-            net,
-            layer,
-            width,
-            points,
-        } => {
-            let Ok(layer) = u8::try_from(*layer) else {
-                return Ok(None);
-            };
-            Ok(Some(Item::Wire {
-                net: *net,
-                layer,
-                width: *width,
-                points: points.copy()?,
-                fix: false,
-            }))
-        }
-        Add::Via { net, padstack, at } => Ok(Some(Item::Via {
-            net: *net,
-            padstack: *padstack,
-            at: *at,
-            fix: false,
-        })),
-    }
-}
+impl Model for Board {
+    ghost use Rattle.std.specs.Prelude.{◌+◌, length};
+    ghost use Rattle.number_slots.specs.Slots.{there};
+    ghost use Rattle.board_core.specs.Boards.{Board as Seen};
 
-// What adds make, each under the next number from `next` on.
-fn made(alloc: Global, next: u32, adds: &[Add]) -> Result<Vec<Live>, AllocError>
-    requires { next + length adds.now < 2 ^ 32 }
-    ensures { IfOk result (λ made. made.items ≡ made_from next adds.now) }
-{
-    let mut made = Vec::new(alloc);
-    for (i, add) in adds.iter().enumerate() {
-        if let Some(item) = item_of(add)? {
-            let id = ItemId(next + i as u32);
-            made.push(Live { id, item })?;
-        }
-    }
-    Ok(made)
+    ghost Value = { Seen };
+
+    ghost view = { λ b. record { live = there 1 b.items; next_id = length b.items + 1; count = b.count } };
 }
 
 impl Board {
     /// The board before the first entry: the design's loaded items, numbered from 1. Its one error is want of
     /// memory.
     pub fn new(alloc: Global, design: &Design) -> Result<Board, AllocError>
-        requires { length design.now.parts.items + 1 < 2 ^ 32 }
-        ensures { IfOk result (λ b. b ≡ first_board design.now.parts) }
+        ensures first { IfOk result (λ b. IsSameBoard b (first_board design.now.parts)) }
+        ensures fits { IfOk result (IsBoardOf design.now.parts) }
     {
-        let mut live = Lives::new(alloc);
-        let items = design.items().as_slice();
-        for (i, item) in items.iter().enumerate() {
-            let id = ItemId(i as u32 + 1);
-            let item = item.copy(alloc)?;
-            live.push(Live { id, item })?;
-        }
-        let next_id = items.len() as u32 + 1;
-        Ok(Board {
-            live,
-            next_id,
-            count: 0,
-        })
-    }
-
-    // The live items in the order of their numbers.
-    pub(crate) fn lives(&self) -> &[Live]
-        ensures { result.now ≡ self.now.live }
-    {
-        self.live.as_slice()
+        let mut items = Slots::new(alloc);
+        let made = loaded(alloc, design.items().as_slice())?;
+        items.replace(&[], made)?;
+        Ok(Board { items, count: 0 })
     }
 
     /// How many entries the board has.
@@ -103,62 +50,61 @@ impl Board {
         self.count
     }
 
-    /// The number that the next item gets.
+    /// The number that the next item gets. The numbers of live items rise, from 1 on and below it, so that a walk over
+    /// all items goes by number, with `item`.
     pub fn next_id(&self) -> u32
-        ensures { result ≡ self.now.next_id }
+        ensures next { result ≡ self.now.next_id }
+        ensures within { (n : ℕ) (x : Item) → IsAt self.now.live n x → (0 < n) × (n < result) }
+        ensures rising { IsRisingFrom 1 self.now.live }
     {
-        self.next_id
+        self.items.last() + 1
     }
 
     /// How many items are live.
     pub fn live(&self) -> u32
-        requires { length self.now.live < 2 ^ 32 }
         ensures { result ≡ length self.now.live }
     {
-        self.live.as_slice().len() as u32
+        self.items.count()
     }
 
-    /// The live item `i`, from 0, in the order of their numbers, and its number; none past the last.
+    /// The live item `i`, from 0, in the order of their numbers, and its number; none past the last. It walks over all
+    /// numbers before it.
     pub fn at(&self, i: u32) -> Option<(ItemId, &Item)>
-        ensures some { IfSome result (λ x. slice_get self.now.live i ≡ Some (record { id = x.0; item = x.1.now })) }
+        ensures some { IfSome result (λ x. slice_get self.now.live i ≡ Some (x.0.0, x.1.now)) }
         ensures none { IfNone result (length self.now.live ≤ i) }
     {
-        match self.live.as_slice().get(i as usize) {
-            None => None,
-            Some(live) => Some((live.id, &live.item)),
-        }
+        let (number, item) = self.items.nth(i)?;
+        Some((ItemId(number), item))
     }
 
-    /// The live item of a number, found by halving the list.
+    /// The live item of a number.
     pub fn item(&self, id: ItemId) -> Option<&Item>
-        requires { IsRisingFrom 1 self.now.live }
-        ensures some { IfSome result (λ item. IsFound self.now.live id.0 item.now) }
-        ensures none { IfNone result (IsLive self.now.live id.0 → ⊥) }
+        ensures some { IfSome result (λ item. IsAt self.now.live id.0 item.now) }
+        ensures only { IfSome result (λ item. (x : Item) → IsAt self.now.live id.0 x → x ≡ item.now) }
+        ensures none { IfNone result (IsThere self.now.live id.0 → ⊥) }
     {
-        find(self.live.as_slice(), id.0)
+        self.items.at(id.0)
     }
 
     // Deletes and adds, as one entry.
     fn edit(&mut self, deletes: &[u32], adds: &[Add]) -> Result<(), AllocError>
         requires next { self.old.next_id + length adds.now < 2 ^ 32 }
         requires count { self.old.count + 1 < 2 ^ 32 }
-        ensures ok { OnOk result (self.new ≡ edited self.old deletes.now adds.now) }
-        ensures err { OnErr result (self.new ≡ self.old) }
+        ensures ok { OnOk result (IsSameBoard self.new (edited self.old deletes.now adds.now)) }
+        ensures err { OnErr result (IsSameBoard self.new self.old) }
     {
-        let made = made(self.live.allocator(), self.next_id, adds)?;
-        self.live.replace(deletes, made)?;
-        self.next_id += adds.len() as u32;
+        let made = made(self.items.allocator(), adds)?;
+        self.items.replace(deletes, made)?;
         self.count += 1;
         Ok(())
     }
 
-    /// Takes one more entry: an edit's deletes go, whatever they are, and then its adds come, under the next
-    /// numbers. After an `Err`, for want of memory, the board is as before.
-    pub fn apply(&mut self, entry: &Entry) -> Result<(), AllocError>
+    // One more entry.
+    fn take(&mut self, entry: &Entry) -> Result<(), AllocError>
         requires next { self.old.next_id + taken_by entry.now.act < 2 ^ 32 }
         requires count { self.old.count + 1 < 2 ^ 32 }
-        ensures ok { OnOk result (self.new ≡ after self.old entry.now.act) }
-        ensures err { OnErr result (self.new ≡ self.old) }
+        ensures ok { OnOk result (IsSameBoard self.new (after self.old entry.now.client entry.now.act)) }
+        ensures err { OnErr result (IsSameBoard self.new self.old) }
     {
         match &entry.act {
             Act::Ask {
@@ -169,5 +115,20 @@ impl Board {
                 Ok(())
             }
         }
+    }
+
+    /// Takes one more entry: an edit's deletes go, whatever they are, and then its adds come, under the next
+    /// numbers. It touches no other item. After an `Err`, for want of memory, the board is as before.
+    pub fn apply(&mut self, entry: &Entry) -> Result<(), AllocError>
+        requires next { self.old.next_id + taken_by entry.now.act < 2 ^ 32 }
+        requires count { self.old.count + 1 < 2 ^ 32 }
+        ensures ok { OnOk result (IsSameBoard self.new (after self.old entry.now.client entry.now.act)) }
+        // From the board after k entries of a journal to that after k + 1.
+        ensures step { OnOk result ((p : Parts) (journal : List Entry) (k : ℕ) → slice_get journal k ≡ Some entry.now
+            → IsSameBoard self.old (board_at p journal k) → IsSameBoard self.new (board_at p journal (k + 1))) }
+        ensures fits { OnOk result ((p : Parts) → IsBoardOf p self.old → HasFitAct p entry.now.act → IsBoardOf p self.new) }
+        ensures err { OnErr result (IsSameBoard self.new self.old) }
+    {
+        self.take(entry)
     }
 }

@@ -1,80 +1,89 @@
 //! Which live items adds are too near to.
 ghost use Rattle.std.specs.Prelude.{◌≡◌, ◌↔◌, ◌+◌, ◌<◌, ◌≤◌, ◌^◌, IsTrue, length, false};
 ghost use Rattle.std.specs.List.{AllByRecursion};
-ghost use Rattle.board_items.specs.Adds.{item_seen, item_of_add, layer_of_add};
-ghost use Rattle.board_rules.specs.Designs.{IsSound, IsFitItem};
+ghost use Rattle.board_items.specs.Adds.{item_seen};
+ghost use Rattle.board_rules.specs.Costs.{pair_most};
+ghost use Rattle.board_rules.specs.Designs.{IsFitItem};
 ghost use Rattle.board_rules.specs.FitAdds.{IsFitAdd};
-ghost use Rattle.board_core.specs.Lives.{without};
-ghost use Rattle.board_core.specs.Clashes.{IsNear, AreFit};
-ghost use Rattle.board_core.specs.Answers.{IsNearReason, IsClashReason};
+ghost use Rattle.number_slots.specs.Slots.{without};
+ghost use Rattle.number_slots.specs.Sums.{sum_between};
+ghost use Rattle.number_slots.specs.Leasts.{IsLeast};
+ghost use Rattle.board_core.specs.Boards.{IsBoardOf};
+ghost use Rattle.board_core.specs.Costs.{item_most, clashes_most};
+ghost use Rattle.board_core.specs.Edits.{IsNear, IsClashReason};
 
-use crate::live::Live;
-use board_items::{Add, ItemView, Why, view, view_add};
+use crate::board::Board;
+use board_items::{Add, ItemId, ItemView, Why, view, view_add};
 use board_rules::Design;
 use seg_geometry::Steps;
 use std::sync::ledger::Ledger;
 
-// Whether a live item isn't deleted, and is too near to another item.
+// Whether the live item of a number isn't deleted, and is too near to another item. What is deleted takes no step.
 fn is_near<L: Ledger>(
     design: &Design,
+    board: &Board,
     deletes: &[u32],
-    other: &Live,
     item: ItemView<'_>,
+    id: u32,
     steps: &mut Steps<L>,
 ) -> bool
-    requires design { IsSound design.now.parts }
     requires item_fits { IsFitItem design.now.parts (item_seen item) }
-    requires other_fits { IsFitItem design.now.parts other.now.item }
-    ensures { IsTrue result ↔ IsNear design.now.parts deletes.now (item_seen item.entry) other.now }
+    requires board { IsBoardOf design.now.parts board.now }
+    ensures near { IsTrue result ↔ IsNear design.now.parts board.now.live deletes.now (item_seen item.entry) id }
+    ensures cost { steps.new ≤ steps.old + sum_between (pair_most design.now.parts (item_seen item.entry)) id (id + 1) (without deletes.now board.now.live) }
 {
-    !design.pair_keeps(item, view(&other.item), steps) && !deletes.contains(&other.id.0)
+    let Some(other) = board.item(ItemId(id)) else {
+        return false;
+    };
+    if deletes.contains(&id) {
+        return false;
+    }
+    !design.pair_keeps(item, view(other), steps)
 }
 
-// The first live item that isn't deleted and is too near to the item of the add of number `add`.
-fn near_why<L: Ledger>(
+// The least live item that isn't deleted and is too near to another item.
+fn least_near<L: Ledger>(
     design: &Design,
+    board: &Board,
     deletes: &[u32],
-    live: &[Live],
     item: ItemView<'_>,
-    add: u32,
     steps: &mut Steps<L>,
-) -> Option<Why>
-    requires design { IsSound design.now.parts }
+) -> Option<u32>
     requires item_fits { IsFitItem design.now.parts (item_seen item) }
-    requires live_fit { AreFit design.now.parts live.now }
-    ensures { IsNearReason design.now.parts add (item_seen item.entry) (without deletes.now live.now) result }
+    requires board { IsBoardOf design.now.parts board.now }
+    ensures least { IsLeast (IsNear design.now.parts board.now.live deletes.now (item_seen item.entry)) result }
+    ensures cost { steps.new ≤ steps.old + item_most design.now.parts (item_seen item.entry) (without deletes.now board.now.live) }
 {
-    let mut rest = live;
-    'items: loop {
-        let Some((other, others)) = rest.split_first() else {
-            return None;
-        };
-        if is_near(design, deletes, other, item, steps) {
-            return Some(Why::Clash { add, id: other.id });
+    for id in 1..board.next_id() {
+        if is_near(design, board, deletes, item, id, steps) {
+            return Some(id);
         }
-        rest = others;
     }
+    None
 }
 
 /// The least add, and then the least live item that isn't deleted, that are too near.
 pub fn clash_why<L: Ledger>(
     design: &Design,
+    board: &Board,
     deletes: &[u32],
-    live: &[Live],
     adds: &[Add],
     steps: &mut Steps<L>,
 ) -> Option<Why>
-    requires design { IsSound design.now.parts }
     requires adds_fit { AllByRecursion (IsFitAdd design.now.parts) adds.now }
     requires few { length adds.now < 2 ^ 32 }
-    requires live_fit { AreFit design.now.parts live.now }
-    ensures { IsClashReason design.now.parts (without deletes.now live.now) 1 adds.now result }
+    requires board { IsBoardOf design.now.parts board.now }
+    ensures reason { IsClashReason design.now.parts board.now.live deletes.now 1 adds.now result }
+    ensures cost { steps.new ≤ steps.old + clashes_most design.now.parts (without deletes.now board.now.live) adds.now }
 {
     for (i, add) in adds.iter().enumerate() {
         let item = view_add(add)?;
-        let number = i as u32 + 1;
-        if let Some(why) = near_why(design, deletes, live, item, number, steps) {
-            return Some(why);
+        if let Some(id) = least_near(design, board, deletes, item, steps) {
+            let add = i as u32 + 1;
+            return Some(Why::Clash {
+                add,
+                id: ItemId(id),
+            });
         }
     }
     None

@@ -5,11 +5,9 @@ mod answer;
 mod board;
 mod clashes;
 mod deletes;
-mod find;
-mod live;
+mod made;
 mod pairs;
 
 pub use answer::slow_answer;
 pub use board::Board;
-pub use live::{Live, Lives};
-pub use pairs::clean;
+pub use pairs::{clean, slow_pair};

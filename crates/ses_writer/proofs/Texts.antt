@@ -3,14 +3,14 @@ use Rattle.std.proofs.Common.{◌≡◌, ℕ, ◌+◌, ◌<◌, suc, Bool, if◌
 use Rattle.std.proofs.lemmas.Option.{slice_get-get_or}
 use Rattle.board_items.specs.declared.items.Padstack.{Padstack}
 use Rattle.board_rules.specs.declared.design.NetRow.{NetRow}
+use Rattle.board_items.specs.declared.items.Item.{Item}
 use Rattle.board_rules.specs.declared.design.Parts.{Parts}
-use Rattle.board_core.specs.declared.live.Live.{Live}
-use Rattle.ses_writer.specs.declared.lists.NetLists.{NetLists}
+use Rattle.ses_writer.specs.declared.by_net.NetLists.{NetLists}
 use Rattle.ses_writer.specs.Library.{is_used, stacks_text}
 use Rattle.ses_writer.specs.Session.{nets_text, net_text}
-use Rattle.ses_writer.specs.Lists.{lists_of, HasLists, HasMarks, marked_text, listed_text}
+use Rattle.ses_writer.specs.ByNet.{lists_of, HasLists, HasMarks, marked_text, listed_text}
 
-marked_from : (p : Parts) (live : List Live) (k : ℕ) (marks : List Bool) (stacks : List Padstack) → length marks ≡ length stacks → ((j : ℕ) (d : Bool) → j < length marks → get_or marks j d ≡ is_used live (k + j)) → marked_text p marks stacks ≡ stacks_text p live k stacks
+marked_from : (p : Parts) (live : List (ℕ × Item)) (k : ℕ) (marks : List Bool) (stacks : List Padstack) → length marks ≡ length stacks → ((j : ℕ) (d : Bool) → j < length marks → get_or marks j d ≡ is_used live (k + j)) → marked_text p marks stacks ≡ stacks_text p live k stacks
 marked_from p live k [] [] same each = refl
 marked_from p live k [] (s ∷ stacks) same each = absurd (omega (arith, same))
 marked_from p live k (m ∷ marks) [] same each = absurd (omega (arith, same))
@@ -23,10 +23,10 @@ marked_from p live k (m ∷ marks) (s ∷ stacks) same each =
     λ j d low. let e : k + 1 + j ≡ k + suc j = omega arith in rw e (each (suc j) d (omega (arith, low))) in
     rw first (rw (marked_from p live (k + 1) marks stacks less later) refl)
 
-pub marked_is : (p : Parts) (live : List Live) (marks : List Bool) → HasMarks p live marks → marked_text p marks p.stacks ≡ stacks_text p live 0 p.stacks
+pub marked_is : (p : Parts) (live : List (ℕ × Item)) (marks : List Bool) → HasMarks p live marks → marked_text p marks p.stacks ≡ stacks_text p live 0 p.stacks
 marked_is p live marks has = marked_from p live 0 marks p.stacks has.count (λ j d low. let e : 0 + j ≡ j = omega arith in rw e (has.each j d low))
 
-listed_from : (p : Parts) (live : List Live) (k : ℕ) (lists : List NetLists) (nets : List NetRow) → length lists ≡ length nets → ((j : ℕ) (d : NetLists) → j < length lists → get_or lists j d ≡ lists_of p live (k + j)) → listed_text lists nets ≡ nets_text p live k nets
+listed_from : (p : Parts) (live : List (ℕ × Item)) (k : ℕ) (lists : List NetLists) (nets : List NetRow) → length lists ≡ length nets → ((j : ℕ) (d : NetLists) → j < length lists → get_or lists j d ≡ lists_of p live (k + j)) → listed_text lists nets ≡ nets_text p live k nets
 listed_from p live k [] [] same each = refl
 listed_from p live k [] (s ∷ nets) same each = absurd (omega (arith, same))
 listed_from p live k (m ∷ lists) [] same each = absurd (omega (arith, same))
@@ -39,7 +39,7 @@ listed_from p live k (m ∷ lists) (s ∷ nets) same each =
     λ j d low. let e : k + 1 + j ≡ k + suc j = omega arith in rw e (each (suc j) d (omega (arith, low))) in
     rw first (rw (listed_from p live (k + 1) lists nets less later) refl)
 
-pub listed_is : (p : Parts) (live : List Live) (lists : List NetLists) → HasLists p live lists → listed_text lists p.nets ≡ nets_text p live 0 p.nets
+pub listed_is : (p : Parts) (live : List (ℕ × Item)) (lists : List NetLists) → HasLists p live lists → listed_text lists p.nets ≡ nets_text p live 0 p.nets
 listed_is p live lists has = listed_from p live 0 lists p.nets has.count (λ j d low. let e : 0 + j ≡ j = omega arith in rw e (has.each j d low))
 
 rest_at : {X : Type 0} (xs : List X) (i : ℕ) (x : X) → i < length xs → get_or xs i x ≡ x → drop i xs ≡ x ∷ drop (i + 1) xs

@@ -2,5 +2,5 @@ pub mod Names
 pub mod Routes
 pub mod Library
 pub mod Session
-pub mod Lists
+pub mod ByNet
 pub mod Samples

@@ -7,8 +7,8 @@ use Rattle.area_geometry.specs.declared.shapes.Core.{Core}
 use Rattle.area_geometry.specs.declared.shapes.Core.TheVariants.{Chain, Area}
 use Rattle.area_geometry.specs.declared.shapes.Shape.{Shape}
 use Rattle.board_items.specs.declared.items.Padstack.{Padstack}
+use Rattle.board_items.specs.declared.items.Item.{Item}
 use Rattle.board_rules.specs.declared.design.Parts.{Parts}
-use Rattle.board_core.specs.declared.live.Live.{Live}
 use Rattle.ses_writer.specs.Names.{name_text}
 use Rattle.ses_writer.specs.Routes.{layer_name, point_text, uses}
 
@@ -48,10 +48,10 @@ unfoldable pub stack_text : Parts → Padstack → List ℕ
 stack_text p s = stack_open ++ (name_text s.name ++ (codes "\n" ++ (flat_map (shape_text p) s.shapes ++ stack_close)))
 
 -- a live via is of this padstack
-abbrev pub is_used : List Live → ℕ → Bool
-is_used live k = list_any (λ (l : Live). uses k l.item) live
+abbrev pub is_used : List (ℕ × Item) → ℕ → Bool
+is_used live k = list_any (λ (l : ℕ × Item). uses k l.1) live
 
 -- the padstacks that live vias use, in the design's order, from this number on
-abbrev pub stacks_text : Parts → List Live → ℕ → List Padstack → List ℕ
+abbrev pub stacks_text : Parts → List (ℕ × Item) → ℕ → List Padstack → List ℕ
 stacks_text p live k [] = []
 stacks_text p live k (s ∷ rest) = (if is_used live k then stack_text p s else []) ++ stacks_text p live (k + 1) rest

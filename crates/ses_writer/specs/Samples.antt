@@ -9,11 +9,12 @@ use Rattle.area_geometry.specs.declared.shapes.Shape.{Shape}
 use Rattle.board_items.specs.declared.items.Item.{Item}
 use Rattle.board_items.specs.Shapes.{shapes_of}
 use Rattle.board_rules.specs.declared.design.Parts.{Parts}
-use Rattle.board_rules.specs.Designs.{IsFitItem}
+use Rattle.board_rules.specs.Designs.{IsFitItem, HasEnough}
 
--- copper within the limits, by recursion on its points
+-- copper within the limits that has its points, by recursion on these
 pub record IsNear (c : Copper) : Type 0 where
   pub points : AllByRecursion IsInRange c.points
+  pub enough : HasEnough c
   pub width : c.width ≤ 100000000
 
 -- a point right of the origin and above it

@@ -2,27 +2,27 @@
 use Rattle.std.specs.Prelude.{ℕ, ◌+◌, Bool, ◌||◌, List, [], ◌∷◌, ◌++◌, codes, if◌then◌else◌}
 use Rattle.std.specs.List.{flat_map, filter, list_any}
 use Rattle.board_rules.specs.declared.design.NetRow.{NetRow}
+use Rattle.board_items.specs.declared.items.Item.{Item}
 use Rattle.board_rules.specs.declared.design.Parts.{Parts}
-use Rattle.board_core.specs.declared.live.Live.{Live}
 use Rattle.ses_writer.specs.Names.{name_text}
 use Rattle.ses_writer.specs.Routes.{item_text, is_wire_of, is_via_of}
 use Rattle.ses_writer.specs.Library.{stacks_text}
 
 -- items as they are written, one after another
-abbrev pub items_text : Parts → List Live → List ℕ
-items_text p live = flat_map (λ (l : Live). item_text p l.item) live
+abbrev pub items_text : Parts → List (ℕ × Item) → List ℕ
+items_text p live = flat_map (λ (l : ℕ × Item). item_text p l.1) live
 
 -- the wires of a net by their numbers
-abbrev pub wires_text : Parts → List Live → ℕ → List ℕ
-wires_text p live net = items_text p (filter (λ (l : Live). is_wire_of net l.item) live)
+abbrev pub wires_text : Parts → List (ℕ × Item) → ℕ → List ℕ
+wires_text p live net = items_text p (filter (λ (l : ℕ × Item). is_wire_of net l.1) live)
 
 -- the vias of a net by their numbers
-abbrev pub vias_text : Parts → List Live → ℕ → List ℕ
-vias_text p live net = items_text p (filter (λ (l : Live). is_via_of net l.item) live)
+abbrev pub vias_text : Parts → List (ℕ × Item) → ℕ → List ℕ
+vias_text p live net = items_text p (filter (λ (l : ℕ × Item). is_via_of net l.1) live)
 
 -- the net has a live wire or via
-abbrev pub has_routes : List Live → ℕ → Bool
-has_routes live net = list_any (λ (l : Live). is_wire_of net l.item || is_via_of net l.item) live
+abbrev pub has_routes : List (ℕ × Item) → ℕ → Bool
+has_routes live net = list_any (λ (l : ℕ × Item). is_wire_of net l.1 || is_via_of net l.1) live
 
 -- a net begins
 unfoldable pub net_open : List ℕ
@@ -37,7 +37,7 @@ unfoldable pub net_text : List ℕ → List ℕ → List ℕ → List ℕ
 net_text name wires vias = net_open ++ (name_text name ++ (codes "\n" ++ (wires ++ (vias ++ net_close))))
 
 -- the nets with a live wire or via, in the design's order, from this number on
-abbrev pub nets_text : Parts → List Live → ℕ → List NetRow → List ℕ
+abbrev pub nets_text : Parts → List (ℕ × Item) → ℕ → List NetRow → List ℕ
 nets_text p live net [] = []
 nets_text p live net (row ∷ rest) =
     (if has_routes live net then net_text row.name (wires_text p live net) (vias_text p live net) else []) ++ nets_text p live (net + 1) rest
@@ -67,5 +67,5 @@ unfoldable pub back_text : List ℕ
 back_text = codes "    )\n  )\n)\n"
 
 -- the session of a design and its live items
-unfoldable pub session_of : Parts → List Live → List ℕ
+unfoldable pub session_of : Parts → List (ℕ × Item) → List ℕ
 session_of p live = front_text p.name ++ (stacks_text p live 0 p.stacks ++ (middle_text ++ (nets_text p live 0 p.nets ++ back_text)))

@@ -1,9 +1,9 @@
 //! The text of a SPECCTRA session.
 #![tactic(auto)]
 
+mod by_net;
 mod fixed;
 mod library;
-mod lists;
 mod names;
 mod nets;
 mod pieces;

@@ -2,10 +2,10 @@
 ghost use Rattle.std.specs.Prelude.{◌≡◌, ◌<◌, ◌++◌, [], OnOk, length, if◌then◌else◌};
 ghost use Rattle.std.specs.List.{flat_map, AllByRecursion};
 ghost use Rattle.area_geometry.specs.Copper.{core_points};
-ghost use Rattle.board_rules.specs.Designs.{IsSound, IsFitShape};
+ghost use Rattle.board_rules.specs.Designs.{IsFitShape};
 ghost use Rattle.ses_writer.specs.Routes.{point_text};
 ghost use Rattle.ses_writer.specs.Library.{shape_word, shape_text, stack_text};
-ghost use Rattle.ses_writer.specs.Lists.{marked_text};
+ghost use Rattle.ses_writer.specs.ByNet.{marked_text};
 
 use crate::fixed::{put_shape_close, put_shape_open, put_stack_close, put_stack_open};
 use crate::names::put_name;
@@ -93,8 +93,7 @@ fn put_used(
 
 /// Puts the padstacks that are marked at the end, in the design's order.
 pub fn put_stacks(out: &mut Bytes, design: &Design, marks: &[bool]) -> Result<(), AllocError>
-    requires sound { IsSound design.now.parts }
-    requires count { length marks.now ≡ length design.now.parts.stacks }
+    requires { length marks.now ≡ length design.now.parts.stacks }
     ensures { OnOk result (out.new ≡ out.old ++ marked_text design.now.parts marks.now design.now.parts.stacks) }
 {
     let stacks = design.stacks().as_slice();

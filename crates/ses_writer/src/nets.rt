@@ -1,11 +1,10 @@
 //! The nets of a session.
 ghost use Rattle.std.specs.Prelude.{◌≡◌, ◌++◌, [], OnOk, length, if◌then◌else◌};
-ghost use Rattle.board_rules.specs.Designs.{IsSound};
 ghost use Rattle.ses_writer.specs.Session.{net_text};
-ghost use Rattle.ses_writer.specs.Lists.{listed_text};
+ghost use Rattle.ses_writer.specs.ByNet.{listed_text};
 
+use crate::by_net::NetLists;
 use crate::fixed::{put_net_close, put_net_open};
-use crate::lists::NetLists;
 use crate::names::put_name;
 use board_rules::Design;
 use layout_io::Bytes;
@@ -35,8 +34,7 @@ fn put_listed(out: &mut Bytes, name: &[u8], list: &NetLists) -> Result<(), Alloc
 
 /// Puts the nets that are listed at the end, in the design's order.
 pub fn put_nets(out: &mut Bytes, design: &Design, lists: &[NetLists]) -> Result<(), AllocError>
-    requires sound { IsSound design.now.parts }
-    requires count { length lists.now ≡ length design.now.parts.nets }
+    requires { length lists.now ≡ length design.now.parts.nets }
     ensures { OnOk result (out.new ≡ out.old ++ listed_text lists.now design.now.parts.nets) }
 {
     for net in 0..design.net_count() {

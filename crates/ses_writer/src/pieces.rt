@@ -1,6 +1,5 @@
 //! The text of a session in pieces.
 ghost use Rattle.std.specs.Prelude.{◌≡◌, ◌<◌, ◌^◌, IfOk, length, min, take, drop};
-ghost use Rattle.board_rules.specs.Designs.{IsSound};
 ghost use Rattle.board_core.specs.Boards.{IsBoardOf};
 ghost use Rattle.ses_writer.specs.Session.{session_of};
 
@@ -35,9 +34,7 @@ impl SesPieces {
     /// The session text of a design and a board, to be taken in pieces. The whole text is made here, in
     /// memory, in one walk over the live items. Its one error is want of memory.
     pub fn new(alloc: Global, design: &Design, board: &Board) -> Result<SesPieces, AllocError>
-        requires design { IsSound design.now.parts }
-        requires board { IsBoardOf design.now.parts board.now }
-        requires few { length board.now.live < 2 ^ 32 }
+        requires { IsBoardOf design.now.parts board.now }
         ensures { IfOk result (λ s. s ≡ session_of design.now.parts board.now.live) }
     {
         let text = session_text(alloc, design, board)?;

@@ -133,6 +133,7 @@ pub(crate) fn wire(
     requires net { net < 3 }
     requires layer { layer < 2 }
     requires points { AllByRecursion IsInRange points.now }
+    requires some { 0 < length points.now }
     ensures { (p : Parts) → IsSample p → IfOk result (IsFitItem p) }
 {
     Ok(Item::Wire {
@@ -176,7 +177,8 @@ pub(crate) fn odd_via(net: u32, fix: bool) -> Item
 }
 
 fn parts(alloc: Global, name: &[u8], items: Items) -> Result<Parts, AllocError>
-    requires { AreFit items }
+    requires fit { AreFit items }
+    requires few { length items < 100 }
     ensures sound { IfOk result IsSound }
     ensures items { IfOk result (λ p. p.items ≡ items) }
 {
@@ -203,7 +205,6 @@ fn joined(alloc: Global, pieces: &mut SesPieces) -> Result<Bytes, AllocError> {
 }
 
 // The session text of a design under a name, with these loaded items.
-#[tactic(auto, using(crate::proofs::FitItems::board_first))]
 pub(crate) fn text_of(alloc: Global, name: &[u8], items: Items) -> Result<Bytes, AllocError>
     requires fit { AreFit items }
     requires few { length items < 100 }

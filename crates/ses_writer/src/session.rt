@@ -1,14 +1,13 @@
 //! The whole text of a session.
 ghost use Rattle.std.specs.Prelude.{◌≡◌, ◌<◌, ◌^◌, ◌++◌, OnOk, IfOk, length};
-ghost use Rattle.board_rules.specs.Designs.{IsSound};
 ghost use Rattle.board_core.specs.Boards.{IsBoardOf};
 ghost use Rattle.ses_writer.specs.Session.{front_text, session_of};
 
+use crate::by_net::lists_of_board;
 use crate::fixed::{
     put_back_text, put_design_open, put_middle_text, put_routes_open, put_session_open,
 };
 use crate::library::put_stacks;
-use crate::lists::lists_of_board;
 use crate::names::put_name;
 use crate::nets::put_nets;
 use board_core::Board;
@@ -30,9 +29,7 @@ fn put_front(out: &mut Bytes, name: &[u8]) -> Result<(), AllocError>
 /// The session text of a design and a board. Its one error is want of memory.
 #[tactic(auto, unfolding(crate::specs::Session::session_of))]
 pub fn session_text(alloc: Global, design: &Design, board: &Board) -> Result<Bytes, AllocError>
-    requires sound { IsSound design.now.parts }
-    requires fit { IsBoardOf design.now.parts board.now }
-    requires few { length board.now.live < 2 ^ 32 }
+    requires { IsBoardOf design.now.parts board.now }
     ensures { IfOk result (λ text. text ≡ session_of design.now.parts board.now.live) }
 {
     let lists = lists_of_board(alloc, design, board)?;

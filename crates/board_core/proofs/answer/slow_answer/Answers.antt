@@ -1,13 +1,25 @@
-use Rattle.std.proofs.Common.{◌≡◌, subst, List, ℕ}
+use Rattle.std.proofs.Common.{◌≡◌, subst, List, ℕ, arith}
+use Rattle.std.specs.Prelude.{Some}
 use Rattle.board_items.specs.declared.requests.Add.{Add}
-use Rattle.board_core.specs.Answers.{IsBoardReason}
+use Rattle.board_core.specs.Edits.{IsBoardReason}
+use Rattle.board_core.proofs.Near.{static_within, edit_within}
 use Rattle.board_core.proofs.Reasons.{answered}
 use Rattle.board_core.proofs.answer.slow_answer.Goals as goal
 
 pub returns-in-Edit-clause-answer : goal.returns-in-Edit-clause-answer
 returns-in-Edit-clause-answer g c =
     let p = c.args.design.now.parts in
-    let live = c.args.board.now.live in
-    let ids : IsBoardReason p live c.in-Edit.deletes c.as_slice-in-Edit.result.now c.board_why.result = subst (λ (x : List ℕ). IsBoardReason p live x c.as_slice-in-Edit.result.now c.board_why.result) c.as_slice.ensures c.board_why.ensures in
-    let both : IsBoardReason p live c.in-Edit.deletes c.in-Edit.adds c.board_why.result = subst (λ (x : List Add). IsBoardReason p live c.in-Edit.deletes x c.board_why.result) c.as_slice-in-Edit.ensures ids in
-    answered p c.args.board.now c.args.clients c.args.request.now c.in-Edit.deletes c.in-Edit.adds c.board_why.result c.in-Edit.is c.in_default.ensures.reason both
+    let b = c.args.board.now in
+    let told = c.board_why.ensures.reason c.args.client in
+    let ids : IsBoardReason p b c.args.client c.in-Edit.deletes c.as_slice-in-Edit.result.now c.board_why.result = subst (λ (x : List ℕ). IsBoardReason p b c.args.client x c.as_slice-in-Edit.result.now c.board_why.result) c.as_slice.ensures told in
+    let both : IsBoardReason p b c.args.client c.in-Edit.deletes c.in-Edit.adds c.board_why.result = subst (λ (x : List Add). IsBoardReason p b c.args.client c.in-Edit.deletes x c.board_why.result) c.as_slice-in-Edit.ensures ids in
+    answered p b c.args.clients c.args.client c.args.request.now c.in-Edit.deletes c.in-Edit.adds c.board_why.result c.in-Edit.is c.in_default.ensures.reason both
+
+pub returns-in-Some-clause-cost : goal.returns-in-Some-clause-cost
+returns-in-Some-clause-cost g c =
+    let most = static_within c.args.design.now.parts c.args.board.now c.args.request.now (Some c.in-Some.why) in omega (arith, most, c.static_why.ensures.cost)
+
+pub returns-in-Edit-clause-cost : goal.returns-in-Edit-clause-cost
+returns-in-Edit-clause-cost g c =
+    let all = edit_within c.args.design.now.parts c.args.board.now c.args.request.now c.in-Edit.deletes c.in-Edit.adds c.board_why.result c.in-Edit.is in
+    let taken = rw (c.as_slice.ensures, c.as_slice-in-Edit.ensures) at c.board_why.ensures.cost in omega (arith, all, taken, c.static_why.ensures.cost)

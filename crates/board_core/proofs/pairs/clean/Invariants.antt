@@ -1,4 +1,4 @@
 use Rattle.board_core.proofs.pairs.clean.Given as goal
 
-abbrev pub ghosts-loaded_pair : goal.ghosts-loaded_pair
-ghosts-loaded_pair a = record { name = a.blank.name; parts = a.blank.parts }
+abbrev pub ghosts-counted_pair : goal.ghosts-counted_pair
+ghosts-counted_pair a = record { name = a.blank.name; parts = a.blank.parts }

@@ -2,7 +2,7 @@ use Rattle.std.proofs.Common.{◌≡◌, ◌++◌, drop, length}
 use Rattle.std.specs.List.{AllByRecursion}
 use Rattle.board_items.specs.declared.items.Padstack.{Padstack}
 use Rattle.board_rules.specs.Designs.{IsFitShape}
-use Rattle.ses_writer.specs.Lists.{marked_text}
+use Rattle.ses_writer.specs.ByNet.{marked_text}
 use Rattle.ses_writer.proofs.library.put_stacks.Given as goal
 
 abbrev pub invariant-loop-i : goal.invariant-loop-i

@@ -1,5 +1,5 @@
 use Rattle.std.proofs.Common.{◌≡◌, ◌++◌, drop}
-use Rattle.ses_writer.specs.Lists.{listed_text}
+use Rattle.ses_writer.specs.ByNet.{listed_text}
 use Rattle.ses_writer.proofs.nets.put_nets.Given as goal
 
 abbrev pub invariant-loop-net : goal.invariant-loop-net

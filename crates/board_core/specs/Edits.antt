@@ -1,0 +1,57 @@
+-- What an edit is answered on a board: the first reason against it, or none.
+-- Cited by `slow_answer`, by way of `IsAnswer`; adds are counted from 1
+use Rattle.std.specs.Prelude.{ℕ, ◌≡◌, ◌+◌, Option, Some, None, List, [], ◌∷◌, ◌++◌, true, false}
+use Rattle.board_items.specs.declared.items.Item.{Item}
+use Rattle.board_items.specs.declared.requests.Add.{Add}
+use Rattle.board_items.specs.declared.requests.Request.TheVariants as requests
+use Rattle.board_items.specs.declared.history.Why.{Why}
+use Rattle.board_items.specs.declared.history.Why.TheVariants as whys
+use Rattle.board_items.specs.Adds.{item_of_add, is_fixed}
+use Rattle.board_rules.specs.declared.design.Parts.{Parts}
+use Rattle.board_rules.specs.Needs.{KeepsNeed}
+use Rattle.board_rules.specs.Reasons.{Nothing, First, Then, IsStaticReason}
+use Rattle.number_slots.specs.Slots.{is_among, IsAt, IsThere}
+use Rattle.board_core.specs.Boards.{Board}
+use Rattle.board_core.specs.Reasons.{Least}
+
+-- a fixed item is live under the number
+abbrev pub IsFixedAt : List (ℕ × Item) → ℕ → Type 0
+IsFixedAt live id = (item : Item) × IsAt live id item × (is_fixed item ≡ true)
+
+-- the first reason against the delete of a number, where these numbers stand before it
+abbrev pub IsDeleteReason : List (ℕ × Item) → List ℕ → ℕ → Option Why → Type 0
+IsDeleteReason live before id =
+    First (is_among id before ≡ true) (whys.Repeated (record { 0 = id }))
+    (First (IsThere live id → ⊥) (whys.Missing (record { 0 = id }))
+    (First (IsFixedAt live id) (whys.Fixed (record { 0 = id })) Nothing))
+
+-- the first reason against deletes, one after another
+abbrev pub IsDeletesReason : List (ℕ × Item) → List ℕ → List ℕ → Option Why → Type 0
+IsDeletesReason live before [] = Nothing
+IsDeletesReason live before (id ∷ rest) = Then (IsDeleteReason live before id) (IsDeletesReason live (before ++ id ∷ []) rest)
+
+-- the live item of this number isn't deleted, and is too near to an item
+pub record IsNear (p : Parts) (live : List (ℕ × Item)) (deletes : List ℕ) (item : Item) (id : ℕ) : Type 0 where
+  pub other : Item
+  pub other_is : IsAt live id other
+  pub near : KeepsNeed p item other → ⊥
+  pub stays : is_among id deletes ≡ false
+
+-- an add and a live item that are too near
+abbrev pub clash : ℕ → ℕ → Why
+clash add id = whys.Clash add (record { 0 = id })
+
+-- the least add, of those from number a on, and then the least live item that isn't deleted, that are too near
+abbrev pub IsClashReason : Parts → List (ℕ × Item) → List ℕ → ℕ → List Add → Option Why → Type 0
+IsClashReason p live deletes a [] = Nothing
+IsClashReason p live deletes a (add ∷ rest) =
+    Then (Least (IsNear p live deletes (item_of_add add)) (clash a)) (IsClashReason p live deletes (a + 1) rest)
+
+-- the first reason of the board against an edit: of its deletes, then a clash with what isn't deleted
+abbrev pub IsBoardReason : Parts → Board → ℕ → List ℕ → List Add → Option Why → Type 0
+IsBoardReason p b client deletes adds = Then (IsDeletesReason b.live [] deletes) (IsClashReason p b.live deletes 1 adds)
+
+-- what an edit of a client is answered: the first reason by itself, and then that of the board
+abbrev pub IsEditReason : Parts → ℕ → Board → ℕ → List ℕ → List Add → Option Why → Type 0
+IsEditReason p clients b client deletes adds =
+    Then (IsStaticReason p clients (requests.Edit deletes adds)) (IsBoardReason p b client deletes adds)

@@ -1,0 +1,4 @@
+pub mod ByNumber
+pub mod Sums
+pub mod Under
+pub mod Kept

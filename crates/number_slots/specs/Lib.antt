@@ -1,0 +1,4 @@
+pub mod Slots
+pub mod Leasts
+pub mod Sums
+pub mod Places

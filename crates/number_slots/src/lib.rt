@@ -1,0 +1,10 @@
+//! Things by their number: numbers are given once, from 1 on.
+#![tactic(auto)]
+
+mod places;
+mod slots;
+
+pub use slots::Slots;
+
+#[cfg(test)]
+mod tests;
