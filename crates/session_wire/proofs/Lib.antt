@@ -1,7 +1,16 @@
+pub mod AddParts
 pub mod AddTexts
 pub mod Digits
+pub mod Halts
+pub mod Lengths
 pub mod LineFeeds
-pub mod Parts
+pub mod NumberTexts
+pub mod PlaceLaws
 pub mod PointTexts
+pub mod RequestTexts
 pub mod StepTexts
+pub mod Stops
 pub mod Things
+pub mod ViaTexts
+pub mod WireTexts
+pub mod WordParts

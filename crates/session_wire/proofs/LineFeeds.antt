@@ -1,8 +1,7 @@
 -- The text of a step has no line feed.
-use Rattle.std.proofs.Common.{◌≡◌, ◌≢◌, ℕ, suc, ◌^◌, ◌<◌, ◌≤◌, false, eqb, List, [], ◌∷◌, ◌++◌, length, get_or, refl, arith}
-use Rattle.std.specs.Prelude.{codes, decimal, ℤ, unsigned_abs}
+use Rattle.std.proofs.Common.{◌≡◌, ◌≢◌, ℕ, suc, ◌^◌, ◌<◌, false, eqb, List, [], ◌∷◌, ◌++◌, length, get_or, refl, arith}
+use Rattle.std.specs.Prelude.{codes, decimal, ℤ}
 use Rattle.std.proofs.Math.IntN.{pos, negsuc}
-use Rattle.std.specs.Fmt.{signed_decimal}
 use Rattle.std.specs.List.{flat_map, AllByRecursion}
 use Rattle.std.proofs.lemmas.Bool.{eqb-false}
 use Rattle.std.proofs.lemmas.Str.Parse.{not_in_digits}
@@ -15,8 +14,11 @@ use Rattle.board_items.specs.Formed.{IsFormedAdd, IsFormedEdit}
 use Rattle.session_wire.specs.declared.steps.ScriptStep.{ScriptStep}
 use Rattle.session_wire.specs.declared.steps.ScriptStep.TheVariants as steps
 use Rattle.session_wire.specs.Lines.{step_text}
-use Rattle.session_wire.specs.Requests.{number_text, point_text, next_add_text, edit_text}
-use Rattle.session_wire.specs.Parts.{IsId}
+use Rattle.session_wire.specs.Numbers.{number_text, IsId}
+use Rattle.session_wire.specs.Points.{coordinate_text, point_text, IsCoordinate}
+use Rattle.session_wire.specs.Adds.{next_add_text}
+use Rattle.session_wire.specs.Requests.{edit_text, next_request_text}
+use Rattle.session_wire.specs.Parts.{counted_text}
 use Rattle.session_wire.specs.Steps.{IsStep, IsLine}
 use Rattle.session_wire.proofs.Digits.{own, decimal_digits}
 
@@ -40,17 +42,20 @@ spaced xs p = (not_ten 32 refl, p)
 number_line : (n : ℕ) → n < 2 ^ 32 → IsLine (number_text n)
 number_line n low = spaced (decimal n) (decimal_line n low)
 
-signed_line : (z : ℤ) → unsigned_abs z ≤ 1000000000 → IsLine (signed_decimal z)
-signed_line (pos n) low = decimal_line n (omega arith)
-signed_line (negsuc n) low = (not_ten 45 refl, decimal_line (suc n) (omega arith))
+signed_line : (z : ℤ) → IsCoordinate z → IsLine (coordinate_text z)
+signed_line (pos n) low = number_line n (omega arith)
+signed_line (negsuc n) low = spaced (45 ∷ decimal (suc n)) (not_ten 45 refl, decimal_line (suc n) (omega arith))
 
 point_line : (p : Pt) → IsInRange p → IsLine (point_text p)
-point_line p f = spaced (signed_decimal p.x ++ (32 ∷ signed_decimal p.y)) (line_append (signed_decimal p.x) (32 ∷ signed_decimal p.y) (signed_line p.x f.x) (spaced (signed_decimal p.y) (signed_line p.y f.y)))
+point_line p f = line_append (coordinate_text p.x) (coordinate_text p.y) (signed_line p.x f.x) (signed_line p.y f.y)
 
 -- where each thing's text is a line, so are all of them
 all_line : {T : Type 0} (P : T → Type 0) (text : T → List ℕ) (xs : List T) → ((x : T) → P x → IsLine (text x)) → AllByRecursion P xs → IsLine (flat_map text xs)
 all_line P text [] h f = tt
 all_line P text (x ∷ xs) h f = line_append (text x) (flat_map text xs) (h x f.0) (all_line P text xs h f.1)
+
+counted_line : {T : Type 0} (P : T → Type 0) (text : T → List ℕ) (xs : List T) → ((x : T) → P x → IsLine (text x)) → AllByRecursion P xs → length xs < 2 ^ 32 → IsLine (counted_text text xs)
+counted_line P text xs h f low = line_append (number_text (length xs)) (flat_map text xs) (number_line (length xs) low) (all_line P text xs h f)
 
 wire_word : IsLine (codes " wire")
 wire_word = (not_ten 32 refl, (not_ten 119 refl, (not_ten 105 refl, (not_ten 114 refl, (not_ten 101 refl, tt)))))
@@ -66,10 +71,10 @@ do_word = (not_ten 100 refl, (not_ten 111 refl, tt))
 
 add_line : (add : Add) → IsFormedAdd add → IsLine (next_add_text add)
 add_line (adds.Wire net layer width ps) f =
-    let counted = number_text (length ps) ++ flat_map point_text ps in
+    let counted = counted_text point_text ps in
     let from_width = number_text width ++ counted in
     let from_layer = number_text layer ++ from_width in
-    let last = line_append (number_text (length ps)) (flat_map point_text ps) (number_line (length ps) (omega (arith, f.points_fit))) (all_line IsInRange point_text ps point_line f.in_range) in
+    let last = counted_line IsInRange point_text ps point_line f.in_range (omega (arith, f.points_fit)) in
     let third = line_append (number_text width) counted (number_line width (omega (arith, f.width_fits))) last in
     let second = line_append (number_text layer) from_width (number_line layer f.layer_fits) third in
     let first = line_append (number_text net) from_layer (number_line net f.net_fits) second in
@@ -82,19 +87,15 @@ add_line (adds.Via net padstack place) f =
 
 edit_line : (ds : List ℕ) (more : List Add) → IsFormedEdit ds more → IsLine (edit_text ds more)
 edit_line ds more f =
-    let from_adds = number_text (length more) ++ flat_map next_add_text more in
-    let from_deletes = flat_map number_text ds ++ from_adds in
-    let fourth = all_line IsFormedAdd next_add_text more add_line f.formed in
-    let third = line_append (number_text (length more)) (flat_map next_add_text more) (number_line (length more) (omega (arith, f.adds_fit))) fourth in
-    let second = line_append (flat_map number_text ds) from_adds (all_line IsId number_text ds number_line f.numbers_fit) third in
-    let first = line_append (number_text (length ds)) from_deletes (number_line (length ds) (omega (arith, f.deletes_fit))) second in
-    line_append (codes "edit") (number_text (length ds) ++ from_deletes) edit_word first
+    let deletes = counted_line IsId number_text ds number_line f.numbers_fit (omega (arith, f.deletes_fit)) in
+    let adds = counted_line IsFormedAdd next_add_text more add_line f.formed (omega (arith, f.adds_fit)) in
+    line_append (codes "edit") (counted_text number_text ds ++ counted_text next_add_text more) edit_word (line_append (counted_text number_text ds) (counted_text next_add_text more) deletes adds)
 
 pub step_is_one_line : (step : ScriptStep) → IsStep step → IsLine (step_text step)
 step_is_one_line (steps.Do client (requests.Edit ds more)) f =
-    line_append (codes "do") (number_text client ++ (32 ∷ edit_text ds more)) do_word (line_append (number_text client) (32 ∷ edit_text ds more) (number_line client (omega (arith, f.1))) (spaced (edit_text ds more) (edit_line ds more f.2)))
-step_is_one_line (steps.Do client (requests.Reserve id)) f = absurd f.3
-step_is_one_line (steps.Do client (requests.Release id)) f = absurd f.3
-step_is_one_line (steps.Do client (requests.Fence layers area clients)) f = absurd f.3
-step_is_one_line (steps.Do client (requests.Unfence fence)) f = absurd f.3
-step_is_one_line (steps.Do client (requests.Entitle fence other)) f = absurd f.3
+    line_append (codes "do") (number_text client ++ next_request_text (requests.Edit ds more)) do_word (line_append (number_text client) (next_request_text (requests.Edit ds more)) (number_line client (omega (arith, f.1))) (spaced (edit_text ds more) (edit_line ds more f.2.0)))
+step_is_one_line (steps.Do client (requests.Reserve id)) f = absurd f.2.1
+step_is_one_line (steps.Do client (requests.Release id)) f = absurd f.2.1
+step_is_one_line (steps.Do client (requests.Fence layers area clients)) f = absurd f.2.1
+step_is_one_line (steps.Do client (requests.Unfence fence)) f = absurd f.2.1
+step_is_one_line (steps.Do client (requests.Entitle fence other)) f = absurd f.2.1

@@ -1,5 +1,10 @@
+pub mod Adds
 pub mod Lines
+pub mod Numbers
 pub mod Parts
+pub mod Places
+pub mod Points
 pub mod Replies
 pub mod Requests
 pub mod Steps
+pub mod Words

@@ -4,7 +4,8 @@ use Rattle.board_items.specs.declared.history.Act.{Act}
 use Rattle.board_items.specs.declared.history.Act.TheVariants as acts
 use Rattle.board_items.specs.declared.history.Entry.{Entry}
 use Rattle.board_items.specs.declared.history.Reply.{Reply}
-use Rattle.session_wire.specs.Requests.{number_text, request_text}
+use Rattle.session_wire.specs.Numbers.{number_text}
+use Rattle.session_wire.specs.Requests.{request_text}
 use Rattle.session_wire.specs.Replies.{reply_text}
 use Rattle.session_wire.specs.declared.steps.ScriptStep.{ScriptStep}
 use Rattle.session_wire.specs.declared.steps.ScriptStep.TheVariants as steps

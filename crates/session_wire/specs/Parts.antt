@@ -1,65 +1,67 @@
--- The parts of a line, as they are read one after another.
-use Rattle.std.specs.Prelude.{ℕ, ◌≡◌, ◌≤◌, ◌^◌, ◌<◌, List, ◌∷◌, ◌++◌, length, slice_index, codes, decimal}
-use Rattle.std.specs.Char.{digit_value}
-use Rattle.std.specs.Fmt.{signed_decimal}
+-- The parts of a line, as they are read one after another, each behind a space.
+use Rattle.std.specs.Prelude.{ℕ, ◌≡◌, ◌≤◌, ◌⊎◌, List, ◌∷◌, ◌++◌, length}
 use Rattle.std.specs.List.{flat_map, AllByRecursion}
-use Rattle.seg_geometry.specs.declared.points.Pt.{Pt}
-use Rattle.board_items.specs.declared.requests.Add.{Add}
-use Rattle.board_items.specs.declared.requests.Request.{Request}
-use Rattle.board_items.specs.Formed.{IsFormedAdd, IsFormed, IsEdit}
-use Rattle.session_wire.specs.declared.fronts.WireNumbers.{WireNumbers}
-use Rattle.session_wire.specs.Requests.{next_add_text, request_text}
+use Rattle.session_wire.specs.declared.faults.Halt.{Halt}
+use Rattle.session_wire.specs.declared.faults.Halt.TheVariants.{Left, Memory}
+use Rattle.session_wire.specs.Words.{IsWord, EndsWord}
+use Rattle.session_wire.specs.Numbers.{number_text}
+use Rattle.session_wire.specs.Places.{Continues}
 
--- the bytes don't begin with a digit
-abbrev pub NoDigit : List ℕ → Type 0
-NoDigit line = 10 ≤ digit_value (slice_index line 0)
+-- a thing of a form, and what follows it
+pub record Then {T : Type 0} (P : T → Type 0) (text : T → List ℕ) (line : List ℕ) (x : T) (rest : List ℕ) : Type 0 where
+  pub formed : P x
+  pub ends : EndsWord rest
+  pub spelled : line ≡ text x ++ rest
 
--- the number of an item
-abbrev pub IsId : ℕ → Type 0
-IsId id = id < 2 ^ 32
+-- the line begins with a thing of the form
+abbrev pub Begins : {T : Type 0} → (T → Type 0) → (T → List ℕ) → List ℕ → Type 0
+Begins {T} P text line = (x : T) × (rest : List ℕ) × Then P text line x rest
 
--- so many things of a form, each spelled in turn, and what follows
-pub record AreThen {T : Type 0} (P : T → Type 0) (text : T → List ℕ) (count : ℕ) (line : List ℕ) (things : List T) (rest : List ℕ) : Type 0 where
-  pub counted : length things ≡ count
-  pub formed : AllByRecursion P things
-  pub stop : NoDigit rest
-  pub spelled : line ≡ flat_map text things ++ rest
+-- so many things of a form
+abbrev pub AreSo : {T : Type 0} → ℕ → (T → Type 0) → List T → Type 0
+AreSo count P things = (length things ≡ count) × AllByRecursion P things
 
--- how many things of a form, these, and what follows
-pub record CountedThen {T : Type 0} (P : T → Type 0) (text : T → List ℕ) (least most : ℕ) (line : List ℕ) (things : List T) (rest : List ℕ) : Type 0 where
+-- so many of them, each spelled in turn, and what follows
+abbrev pub AreThen : {T : Type 0} → (T → Type 0) → (T → List ℕ) → ℕ → List ℕ → List T → List ℕ → Type 0
+AreThen P text count = Then (AreSo count P) (flat_map text)
+
+-- things of a form, as many as two bounds allow
+pub record AreCounted {T : Type 0} (least most : ℕ) (P : T → Type 0) (things : List T) : Type 0 where
   pub enough : least ≤ length things
   pub fit : length things ≤ most
   pub formed : AllByRecursion P things
-  pub stop : NoDigit rest
-  pub spelled : line ≡ decimal (length things) ++ (flat_map text things ++ rest)
 
--- the numbers of a wire
-pub record AreInBounds (wire : WireNumbers) : Type 0 where
-  pub net_fits : wire.net < 2 ^ 32
-  pub layer_fits : wire.layer < 2 ^ 32
-  pub some_width : 1 ≤ wire.width
-  pub width_fits : wire.width ≤ 100000000
+-- how many things, and these
+abbrev pub counted_text : {T : Type 0} → (T → List ℕ) → List T → List ℕ
+counted_text text things = number_text (length things) ++ flat_map text things
 
--- these numbers, each with a space behind it, and what follows
-abbrev pub numbers_then : WireNumbers → List ℕ → List ℕ
-numbers_then wire rest = decimal wire.net ++ (32 ∷ (decimal wire.layer ++ (32 ∷ (decimal wire.width ++ (32 ∷ rest)))))
+-- how many of them, each spelled in turn, and what follows
+abbrev pub CountedThen : {T : Type 0} → (T → Type 0) → (T → List ℕ) → ℕ → ℕ → List ℕ → List T → List ℕ → Type 0
+CountedThen P text least most = Then (AreCounted least most P) (counted_text text)
 
--- the coordinates of a point, each behind a space, and what follows
-abbrev pub point_then : Pt → List ℕ → List ℕ
-point_then p rest = 32 ∷ (signed_decimal p.x ++ (32 ∷ (signed_decimal p.y ++ rest)))
+-- the first word with which no line of the form goes on has so many bytes left, itself among them
+pub record StopsAtWord (Is : List ℕ → Type 0) (line : List ℕ) (left : ℕ) : Type 0 where
+  pub words : List ℕ
+  pub word : List ℕ
+  pub rest : List ℕ
+  pub parts : line ≡ words ++ 32 ∷ (word ++ rest)
+  pub place : left ≡ length (word ++ rest)
+  pub whole : IsWord word
+  pub ends : EndsWord rest
+  pub read : Continues Is words
+  pub lost : Continues Is (words ++ 32 ∷ word) → ⊥
 
--- an add behind a space, and what follows
-pub record AddThen (line : List ℕ) (add : Add) (rest : List ℕ) : Type 0 where
-  pub formed : IsFormedAdd add
-  pub stop : NoDigit rest
-  pub spelled : line ≡ next_add_text add ++ rest
+-- lines of the form begin with the line and go on, and none ends with it: no byte is left
+pub record StopsShort (Is : List ℕ → Type 0) (line : List ℕ) (left : ℕ) : Type 0 where
+  pub place : left ≡ 0
+  pub read : Continues Is line
+  pub none : Is line → ⊥
 
--- the line asks for an edit
-pub record AsksEdit (line : List ℕ) (request : Request) : Type 0 where
-  pub formed : IsFormed request
-  pub edit : IsEdit request
-  pub spelled : line ≡ request_text request
+-- how many bytes are left of a line, behind a word's end, where it stops to be one of the form
+abbrev pub StopsAt : (List ℕ → Type 0) → List ℕ → ℕ → Type 0
+StopsAt Is line left = StopsAtWord Is line left ⊎ StopsShort Is line left
 
--- a client's edit up to its numbers, and what follows
-abbrev pub front_then : ℕ → List ℕ → List ℕ
-front_then client rest = codes "do " ++ (decimal client ++ (codes " edit " ++ rest))
+-- why a part isn't read
+abbrev pub WhyHalts : (List ℕ → Type 0) → List ℕ → Halt → Type 0
+WhyHalts Is line (Left left) = StopsAt Is line left
+WhyHalts Is line Memory = Unit {0}

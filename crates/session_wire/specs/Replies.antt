@@ -4,7 +4,7 @@ use Rattle.board_items.specs.declared.history.Why.{Why}
 use Rattle.board_items.specs.declared.history.Why.TheVariants as whys
 use Rattle.board_items.specs.declared.history.Reply.{Reply}
 use Rattle.board_items.specs.declared.history.Reply.TheVariants as replies
-use Rattle.session_wire.specs.Requests.{number_text}
+use Rattle.session_wire.specs.Numbers.{number_text}
 
 -- a word and a number
 abbrev pub one_text : List ℕ → ℕ → List ℕ

@@ -1,100 +1,95 @@
 //! The adds of an edit.
-ghost use Rattle.std.specs.Prelude.{◌≡◌, ◌≤◌, ◌++◌, ◌∷◌, [], codes, IfOk, IfSome, IfNone, ℕ, List};
-ghost use Rattle.board_items.specs.declared.requests.Add.{Add};
+ghost use Rattle.std.specs.Prelude.{◌≡◌, ◌≤◌, ◌++◌, codes, IfOk, IfErr, ℕ, List};
+ghost use Rattle.std.specs.List.{flat_map};
 ghost use Rattle.board_items.specs.Formed.{IsFormedAdd};
-ghost use Rattle.session_wire.specs.Requests.{next_add_text};
-ghost use Rattle.session_wire.specs.Parts.{NoDigit, AddThen, AreThen, CountedThen};
+ghost use Rattle.row_lists.specs.Limits.{add_limit};
+ghost use Rattle.session_wire.specs.Words.{EndsWord};
+ghost use Rattle.session_wire.specs.Adds.{next_add_text};
+ghost use Rattle.session_wire.specs.Parts.{Then, Begins, StopsAt, AreSo, AreThen, AreCounted, CountedThen, counted_text, WhyHalts};
 
-use crate::fronts::numbers_at;
-use crate::numbers::{after, field_at, number_at};
+use crate::deletes::id_at;
+use crate::faults::Halt;
+use crate::numbers::number_at;
 use crate::points::{counted_points_at, point_at};
+use crate::words::{is_word, word_at};
 use board_items::{Add, Adds};
+use row_lists::{ADD_LIMIT, WIDTH_LIMIT_NM};
 use std::alloc::{AllocError, Global};
 
-// The wire whose numbers stand at the front, and what follows it.
-fn wire_at(alloc: Global, text: &[u8]) -> Result<Option<(Add, &[u8])>, AllocError>
-    ensures some { IfOk result (λ o. IfSome o (λ x. AddThen (codes " wire " ++ text.now) x.0 x.1.now)) }
-    ensures none { IfOk result (λ o. IfNone o ((add : Add) (rest : List ℕ) → AddThen (codes " wire " ++ text.now) add rest → ⊥)) }
+// The wire behind its word, and what follows it.
+fn wire_at(alloc: Global, line: &[u8]) -> Result<(Add, &[u8]), Halt>
+    requires { EndsWord line.now }
+    ensures ok { IfOk result (λ x. Then IsFormedAdd next_add_text (codes " wire" ++ line.now) x.0 x.1.now) }
+    ensures err { IfErr result (WhyHalts (λ t. Begins IsFormedAdd next_add_text (codes " wire" ++ t)) line.now) }
 {
-    let Some((numbers, from_points)) = numbers_at(text) else {
-        return Ok(None);
-    };
-    let Some((points, rest)) = counted_points_at(alloc, from_points)? else {
-        return Ok(None);
-    };
+    let (net, from_layer) = id_at(line)?;
+    let (layer, from_width) = id_at(from_layer)?;
+    let (width, from_points) = number_at(from_width, 1, WIDTH_LIMIT_NM)?;
+    let (points, rest) = counted_points_at(alloc, from_points)?;
     let add = Add::Wire {
-        net: numbers.net,
-        layer: numbers.layer,
-        width: numbers.width,
+        net,
+        layer,
+        width,
         points,
     };
-    Ok(Some((add, rest)))
+    Ok((add, rest))
 }
 
-// The via whose numbers stand at the front, and what follows it.
-fn via_at(text: &[u8]) -> Option<(Add, &[u8])>
-    ensures some { IfSome result (λ x. AddThen (codes " via " ++ text.now) x.0 x.1.now) }
-    ensures none { IfNone result ((add : Add) (rest : List ℕ) → AddThen (codes " via " ++ text.now) add rest → ⊥) }
+// The via behind its word, and what follows it.
+fn via_at(line: &[u8]) -> Result<(Add, &[u8]), usize>
+    requires { EndsWord line.now }
+    ensures ok { IfOk result (λ x. Then IsFormedAdd next_add_text (codes " via" ++ line.now) x.0 x.1.now) }
+    ensures err { IfErr result (StopsAt (λ t. Begins IsFormedAdd next_add_text (codes " via" ++ t)) line.now) }
 {
-    let (net, from_padstack) = field_at(text, 0, u32::MAX)?;
-    let (padstack, from_place) = number_at(from_padstack, 0, u32::MAX)?;
+    let (net, from_padstack) = id_at(line)?;
+    let (padstack, from_place) = id_at(from_padstack)?;
     let (at, rest) = point_at(from_place)?;
-    Some((Add::Via { net, padstack, at }, rest))
+    Ok((Add::Via { net, padstack, at }, rest))
 }
 
-// The add behind the space at the front, and what follows it.
-fn add_at(alloc: Global, text: &[u8]) -> Result<Option<(Add, &[u8])>, AllocError>
-    ensures some { IfOk result (λ o. IfSome o (λ x. AddThen text.now x.0 x.1.now)) }
-    ensures none { IfOk result (λ o. IfNone o ((add : Add) (rest : List ℕ) → AddThen text.now add rest → ⊥)) }
+// The next add, and what follows it.
+fn add_at(alloc: Global, line: &[u8]) -> Result<(Add, &[u8]), Halt>
+    requires { EndsWord line.now }
+    ensures ok { IfOk result (λ x. Then IsFormedAdd next_add_text line.now x.0 x.1.now) }
+    ensures err { IfErr result (WhyHalts (Begins IsFormedAdd next_add_text) line.now) }
 {
-    if let Some(from_net) = after(text, b" wire ") {
-        return wire_at(alloc, from_net);
+    let Some((word, rest)) = word_at(line) else {
+        return Err(Halt::Left { left: 0 });
+    };
+    if is_word(word, b"wire") {
+        return wire_at(alloc, rest);
     }
-    match after(text, b" via ") {
-        Some(from_net) => Ok(via_at(from_net)),
-        None => Ok(None),
+    if is_word(word, b"via") {
+        let (via, following) = via_at(rest)?;
+        return Ok((via, following));
     }
+    Err(Halt::Left {
+        left: line.len() - 1,
+    })
 }
 
-// So many adds at the front, and what follows them.
-fn adds_at(alloc: Global, text: &[u8], count: u32) -> Result<Option<(Adds, &[u8])>, AllocError>
-    requires { NoDigit text.now }
-    ensures some { IfOk result (λ o. IfSome o (λ x. AreThen IsFormedAdd next_add_text count text.now x.0 x.1.now)) }
-    ensures none { IfOk result (λ o. IfNone o ((adds : List Add) (rest : List ℕ) → AreThen IsFormedAdd next_add_text count text.now adds rest → ⊥)) }
+// So many adds, and what follows them.
+fn adds_at(alloc: Global, line: &[u8], count: u32) -> Result<(Adds, &[u8]), Halt>
+    requires { EndsWord line.now }
+    ensures ok { IfOk result (λ x. AreThen IsFormedAdd next_add_text count line.now x.0 x.1.now) }
+    ensures err { IfErr result (WhyHalts (Begins (AreSo count IsFormedAdd) (flat_map next_add_text)) line.now) }
 {
     let mut adds = Adds::new(alloc);
-    let mut rest = text;
+    let mut rest = line;
     for _turn in 0..count {
-        let Some((add, following)) = add_at(alloc, rest)? else {
-            return Ok(None);
-        };
+        let (add, following) = add_at(alloc, rest)?;
         adds.push(add)?;
         rest = following;
     }
-    Ok(Some((adds, rest)))
+    Ok((adds, rest))
 }
 
 // How many adds an edit has, these, and what follows them.
-fn counted_adds_at(alloc: Global, text: &[u8]) -> Result<Option<(Adds, &[u8])>, AllocError>
-    ensures some { IfOk result (λ o. IfSome o (λ x. CountedThen IsFormedAdd next_add_text 0 64 text.now x.0 x.1.now)) }
-    ensures none { IfOk result (λ o. IfNone o ((adds : List Add) (rest : List ℕ) → CountedThen IsFormedAdd next_add_text 0 64 text.now adds rest → ⊥)) }
+pub(crate) fn counted_adds_at(alloc: Global, line: &[u8]) -> Result<(Adds, &[u8]), Halt>
+    requires { EndsWord line.now }
+    ensures ok { IfOk result (λ x. CountedThen IsFormedAdd next_add_text 0 add_limit line.now x.0 x.1.now) }
+    ensures err { IfErr result (WhyHalts (Begins (AreCounted 0 add_limit IsFormedAdd) (counted_text next_add_text)) line.now) }
 {
-    match number_at(text, 0, 64) {
-        Some((count, rest)) => adds_at(alloc, rest, count),
-        None => Ok(None),
-    }
-}
-
-// The adds that the whole text spells, behind their count.
-pub(crate) fn all_adds_at(alloc: Global, text: &[u8]) -> Result<Option<Adds>, AllocError>
-    ensures some { IfOk result (λ o. IfSome o (λ adds. CountedThen IsFormedAdd next_add_text 0 64 text.now adds [])) }
-    ensures none { IfOk result (λ o. IfNone o ((adds : List Add) → CountedThen IsFormedAdd next_add_text 0 64 text.now adds [] → ⊥)) }
-{
-    let Some((adds, rest)) = counted_adds_at(alloc, text)? else {
-        return Ok(None);
-    };
-    if !rest.is_empty() {
-        return Ok(None);
-    }
-    Ok(Some(adds))
+    let (count, rest) = number_at(line, 0, ADD_LIMIT as u32)?;
+    adds_at(alloc, rest, count)
 }

@@ -1,61 +1,98 @@
-//! Points at the front of a line.
-ghost use Rattle.std.specs.Prelude.{◌≡◌, ◌≤◌, ◌++◌, ◌∷◌, IfOk, IfSome, IfNone, ℕ, List, ℤ, length, unsigned_abs};
+//! Coordinates and points of a line, in nm.
+ghost use Rattle.std.specs.Prelude.{◌≡◌, ◌≤◌, ◌∷◌, ◌≢◌, IfOk, IfErr, IfSome, IfNone, ℕ, List, ℤ, unsigned_abs};
 ghost use Rattle.std.specs.Fmt.{signed_decimal};
 ghost use Rattle.seg_geometry.specs.Points.{IsInRange};
-ghost use Rattle.seg_geometry.specs.declared.points.Pt.{Pt};
-ghost use Rattle.session_wire.specs.Requests.{point_text};
-ghost use Rattle.session_wire.specs.Parts.{NoDigit, AreThen, CountedThen, point_then};
+ghost use Rattle.row_lists.specs.Limits.{wire_point_limit};
+ghost use Rattle.session_wire.specs.Words.{EndsWord};
+ghost use Rattle.session_wire.specs.Points.{coordinate_text, point_text, IsCoordinate};
+ghost use Rattle.session_wire.specs.Parts.{Then, Begins, StopsAt, AreSo, AreThen, AreCounted, CountedThen, counted_text, WhyHalts};
+ghost use Rattle.std.specs.List.{flat_map};
 
-use crate::numbers::{after, coordinate_at, number_at};
+use crate::faults::Halt;
+use crate::numbers::{number_at, number_in};
+use crate::words::{after, word_at};
+use row_lists::{COORDINATE_LIMIT_NM, WIRE_POINT_LIMIT};
 use seg_geometry::{Points, Pt};
 use std::alloc::{AllocError, Global};
 
-// The coordinate behind the space at the front, and what follows it.
-fn next_coordinate_at(line: &[u8]) -> Option<(i64, &[u8])>
-    ensures some { IfSome result (λ x. (unsigned_abs x.0 ≤ 1000000000) × NoDigit x.1.now × (line.now ≡ 32 ∷ (signed_decimal x.0 ++ x.1.now))) }
-    ensures none { IfNone result ((z : ℤ) (rest : List ℕ) → unsigned_abs z ≤ 1000000000 → NoDigit rest → line.now ≡ 32 ∷ (signed_decimal z ++ rest) → ⊥) }
+// The coordinate that the word spells.
+fn coordinate_of(word: &[u8]) -> Option<i64>
+    ensures some { IfSome result (λ z. IsCoordinate z × (word.now ≡ signed_decimal z)) }
+    ensures none { IfNone result ((z : ℤ) → IsCoordinate z → word.now ≡ signed_decimal z → ⊥) }
 {
-    coordinate_at(after(line, b" ")?)
+    match after(word, b"-") {
+        Some(digits) => negative_of(digits),
+        None => positive_of(word),
+    }
 }
 
-// The point at the front, each coordinate behind a space, and what follows it.
-pub(crate) fn point_at(line: &[u8]) -> Option<(Pt, &[u8])>
-    ensures some { IfSome result (λ x. IsInRange x.0 × NoDigit x.1.now × (line.now ≡ point_then x.0 x.1.now)) }
-    ensures none { IfNone result ((p : Pt) (rest : List ℕ) → IsInRange p → NoDigit rest → line.now ≡ point_then p rest → ⊥) }
+// The coordinate below 0 with these digits.
+fn negative_of(digits: &[u8]) -> Option<i64>
+    ensures some { IfSome result (λ z. IsCoordinate z × (45 ∷ digits.now ≡ signed_decimal z)) }
+    ensures none { IfNone result ((z : ℤ) → IsCoordinate z → 45 ∷ digits.now ≡ signed_decimal z → ⊥) }
 {
-    let (x, from_y) = next_coordinate_at(line)?;
-    let (y, rest) = next_coordinate_at(from_y)?;
-    Some((Pt { x, y }, rest))
+    let size = number_in(digits, 1, COORDINATE_LIMIT_NM as u32)?;
+    Some(-i64::from(size))
 }
 
-// So many points at the front, and what follows them.
-fn points_at(alloc: Global, text: &[u8], count: u32) -> Result<Option<(Points, &[u8])>, AllocError>
-    requires { NoDigit text.now }
-    ensures some { IfOk result (λ o. IfSome o (λ x. AreThen IsInRange point_text count text.now x.0 x.1.now)) }
-    ensures none { IfOk result (λ o. IfNone o ((points : List Pt) (rest : List ℕ) → AreThen IsInRange point_text count text.now points rest → ⊥)) }
+// The coordinate from 0 on with these digits.
+fn positive_of(digits: &[u8]) -> Option<i64>
+    requires { (rest : List ℕ) → digits.now ≢ 45 ∷ rest }
+    ensures some { IfSome result (λ z. IsCoordinate z × (digits.now ≡ signed_decimal z)) }
+    ensures none { IfNone result ((z : ℤ) → IsCoordinate z → digits.now ≡ signed_decimal z → ⊥) }
+{
+    let size = number_in(digits, 0, COORDINATE_LIMIT_NM as u32)?;
+    Some(i64::from(size))
+}
+
+// The next coordinate, and what follows it.
+fn coordinate_at(line: &[u8]) -> Result<(i64, &[u8]), usize>
+    requires { EndsWord line.now }
+    ensures ok { IfOk result (λ x. Then IsCoordinate coordinate_text line.now x.0 x.1.now) }
+    ensures err { IfErr result (StopsAt (Begins IsCoordinate coordinate_text) line.now) }
+{
+    let Some((word, rest)) = word_at(line) else {
+        return Err(0);
+    };
+    match coordinate_of(word) {
+        Some(coordinate) => Ok((coordinate, rest)),
+        None => Err(line.len() - 1),
+    }
+}
+
+// The next point, and what follows it.
+pub(crate) fn point_at(line: &[u8]) -> Result<(Pt, &[u8]), usize>
+    requires { EndsWord line.now }
+    ensures ok { IfOk result (λ x. Then IsInRange point_text line.now x.0 x.1.now) }
+    ensures err { IfErr result (StopsAt (Begins IsInRange point_text) line.now) }
+{
+    let (x, from_y) = coordinate_at(line)?;
+    let (y, rest) = coordinate_at(from_y)?;
+    Ok((Pt { x, y }, rest))
+}
+
+// So many points, and what follows them.
+fn points_at(alloc: Global, line: &[u8], count: u32) -> Result<(Points, &[u8]), Halt>
+    requires { EndsWord line.now }
+    ensures ok { IfOk result (λ x. AreThen IsInRange point_text count line.now x.0 x.1.now) }
+    ensures err { IfErr result (WhyHalts (Begins (AreSo count IsInRange) (flat_map point_text)) line.now) }
 {
     let mut points = Points::new(alloc);
-    let mut rest = text;
+    let mut rest = line;
     for _turn in 0..count {
-        let Some((point, following)) = point_at(rest) else {
-            return Ok(None);
-        };
+        let (point, following) = point_at(rest)?;
         points.push(point)?;
         rest = following;
     }
-    Ok(Some((points, rest)))
+    Ok((points, rest))
 }
 
 // How many points a wire has, these, and what follows them.
-pub(crate) fn counted_points_at(
-    alloc: Global,
-    text: &[u8],
-) -> Result<Option<(Points, &[u8])>, AllocError>
-    ensures some { IfOk result (λ o. IfSome o (λ x. CountedThen IsInRange point_text 2 256 text.now x.0 x.1.now)) }
-    ensures none { IfOk result (λ o. IfNone o ((points : List Pt) (rest : List ℕ) → CountedThen IsInRange point_text 2 256 text.now points rest → ⊥)) }
+pub(crate) fn counted_points_at(alloc: Global, line: &[u8]) -> Result<(Points, &[u8]), Halt>
+    requires { EndsWord line.now }
+    ensures ok { IfOk result (λ x. CountedThen IsInRange point_text 2 wire_point_limit line.now x.0 x.1.now) }
+    ensures err { IfErr result (WhyHalts (Begins (AreCounted 2 wire_point_limit IsInRange) (counted_text point_text)) line.now) }
 {
-    match number_at(text, 2, 256) {
-        Some((count, rest)) => points_at(alloc, rest, count),
-        None => Ok(None),
-    }
+    let (count, rest) = number_at(line, 2, WIRE_POINT_LIMIT as u32)?;
+    points_at(alloc, rest, count)
 }

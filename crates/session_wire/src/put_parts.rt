@@ -1,7 +1,8 @@
 //! How numbers, points and words with numbers are written.
 ghost use Rattle.std.specs.Prelude.{◌≡◌, ◌++◌, ◌∷◌, OnOk, codes, List, ℕ};
 ghost use Rattle.std.specs.List.{flat_map};
-ghost use Rattle.session_wire.specs.Requests.{number_text, point_text};
+ghost use Rattle.session_wire.specs.Numbers.{number_text};
+ghost use Rattle.session_wire.specs.Points.{point_text};
 ghost use Rattle.session_wire.specs.Replies.{one_text, two_text};
 
 use itoa::Buffer;

@@ -1,7 +1,11 @@
 //! How adds and requests are written.
 ghost use Rattle.std.specs.Prelude.{◌≡◌, ◌++◌, ◌∷◌, OnOk, codes, List, ℕ, length};
 ghost use Rattle.std.specs.List.{flat_map};
-ghost use Rattle.session_wire.specs.Requests.{number_text, point_text, add_text, next_add_text, edit_text, fence_text, request_text};
+ghost use Rattle.session_wire.specs.Numbers.{number_text};
+ghost use Rattle.session_wire.specs.Points.{point_text};
+ghost use Rattle.session_wire.specs.Adds.{add_text, next_add_text};
+ghost use Rattle.session_wire.specs.Parts.{counted_text};
+ghost use Rattle.session_wire.specs.Requests.{edit_text, fence_text, request_text};
 
 use crate::put_parts::{
     put_number, put_numbers, put_one, put_point, put_points, put_small_numbers, put_two,

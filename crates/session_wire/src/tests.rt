@@ -1,76 +1,166 @@
-use crate::{ScriptStep, one_step, read_step, step_is_one_line, write_entry, write_reply};
+use crate::{
+    LineFault, ScriptStep, a_step_is_not_bad, a_step_is_short, decode_script_line,
+    each_line_has_a_step_or_is_bad, one_bad_byte, one_step, step_is_one_line, write_entry,
+    write_reply,
+};
 use board_items::{Act, Clients, Entry, ItemId, Layers, Reply, Request, Why};
 use layout_io::Bytes;
 use seg_geometry::{Points, Pt};
+use std::alloc::{AllocError, Global};
 use std::test::Fail;
+
+// The byte at which a line is bad, and none where it has a reading.
+fn bad_at(alloc: Global, line: &[u8]) -> Option<u32> {
+    match decode_script_line(alloc, line) {
+        Ok(_) => None,
+        Err(LineFault::Bad { at }) => Some(at),
+        Err(LineFault::Memory) => Some(u32::MAX),
+    }
+}
 
 // By hand, from the bounds on clients, counts, numbers, widths and coordinates, and from the one spelling of numbers.
 #[test]
-fn just_the_lines_of_the_form_are_read(rt: HostRuntime) -> Result<(), Fail> {
-    for (line, readable) in [
-        ("do 1 edit 0 1 wire 0 0 250000 2 0 0 1000000 0", true),
-        ("do 0 edit 0 1 wire 0 0 250000 2 0 0 1000000 0", false),
-        ("do 8 edit 0 1 wire 0 0 250000 2 0 0 1000000 0", true),
-        ("do 9 edit 0 1 wire 0 0 250000 2 0 0 1000000 0", false),
-        ("do 1 edit 0 1 wire 4294967295 4294967295 1 2 0 0 0 0", true),
-        ("do 1 edit 0 1 wire 4294967296 0 1 2 0 0 0 0", false),
-        ("do 1 edit 0 1 wire 0 4294967296 1 2 0 0 0 0", false),
-        ("do 1 edit 0 1 wire 0 0 0 2 0 0 0 0", false),
-        ("do 1 edit 0 1 wire 0 0 100000000 2 0 0 0 0", true),
-        ("do 1 edit 0 1 wire 0 0 100000001 2 0 0 0 0", false),
-        ("do 1 edit 0 1 wire 0 0 1 1 0 0", false),
-        ("do 1 edit 0 1 wire 0 0 1 3 0 0 0 0", false),
-        ("do 1 edit 0 1 wire 0 0 1 2 0 0 0 0 0 0", false),
-        ("do 1 edit 0 1 wire 0 0 1 2 0 0 0", false),
-        (
-            "do 1 edit 0 1 wire 0 0 1 2 -1000000000 0 1000000000 0",
-            true,
-        ),
-        ("do 1 edit 0 1 wire 0 0 1 2 -1000000001 0 0 0", false),
-        ("do 1 edit 0 1 wire 0 0 1 2 0 0 1000000001 0", false),
-        ("do 1 edit 0 1 wire 0 0 1 2 -0 0 0 0", false),
-        ("do 1 edit 0 1 wire 00 0 1 2 0 0 0 0", false),
-        ("do 1 edit 0 1 wire 0 0 1 2 +1 0 0 0", false),
-        ("do 1 edit 0 1 wire 0 0 1 2  0 0 0 0", false),
-        ("do 1  edit 0 1 wire 0 0 1 2 0 0 0 0", false),
-        ("do 1 edit 0 1 wire 0 0 1 2 0 0 0 0 ", false),
-        ("do 1 edit 0 1 via 4294967295 4294967295 0 0", true),
-        ("do 1 edit 0 1 via 4294967296 0 0 0", false),
-        ("do 1 edit 0 1 via 0 4294967296 0 0", false),
-        ("do 1 edit 0 1 via 0 0 1000000000 -1000000000", true),
-        ("do 1 edit 0 1 via 0 0 1000000001 0", false),
-        ("do 1 edit 0 1 via 0 0 0 -1000000001", false),
-        ("do 1 edit 0 1 via 0 0 0 -0", false),
-        ("do 1 edit 0 1 via 0 0 0", false),
-        ("do 1 edit 0 1 via 0 0 0 0 0", false),
-        ("do 1 edit 0 1 wires 0 0 0 0", false),
-        ("do 1 edit 0 2 via 0 0 0 0", false),
-        ("do 1 edit 0 1 via 0 0 0 0 via 0 0 0 0", false),
-        ("do 1 edit 1 4294967295 0", true),
-        ("do 1 edit 1 4294967296 0", false),
-        ("do 1 edit 1 01 0", false),
-        ("do 1 edit 01 1 0", false),
-        ("do 1 edit 1  7 0", false),
-        ("do 1 edit 1 -7 0", false),
-        ("do 1 edit 2 7 0", false),
-        ("do 1 edit 1 7 8 0", false),
-        ("do 1 edit 1 7", false),
-        ("do 1 edit 0 0", true),
-        ("do 1 edit", false),
-        ("do 1 reserve 7", false),
-        ("", false),
+fn lines_of_the_form_are_read(rt: HostRuntime) -> Result<(), Fail> {
+    for line in [
+        "do 1 edit 0 0",
+        "do 8 edit 0 1 wire 0 0 250000 2 0 0 1000000 0",
+        "do 1 edit 0 1 wire 4294967295 4294967295 1 2 0 0 0 0",
+        "do 1 edit 0 1 wire 0 0 100000000 2 -1000000000 0 1000000000 0",
+        "do 1 edit 0 1 via 4294967295 4294967295 1000000000 -1000000000",
+        "do 1 edit 0 2 via 0 0 0 0 via 0 0 0 0",
+        "do 1 edit 1 4294967295 0",
     ] {
-        let step = read_step(rt.alloc(), line.as_bytes())?;
-        assert_eq!(rt; step.is_some(), readable, "{line}");
+        assert_eq!(rt; bad_at(rt.alloc(), line.as_bytes()), None, "{line}");
     }
-    for (front, count, part, back, readable) in [
-        ("do 1 edit 0 1 wire 0 0 1 256", 256, " 7 -7", "", true),
-        ("do 1 edit 0 1 wire 0 0 1 257", 257, " 7 -7", "", false),
-        ("do 1 edit 0 1 wire 0 0 1 256", 255, " 7 -7", "", false),
-        ("do 1 edit 256", 256, " 7", " 0", true),
-        ("do 1 edit 257", 257, " 7", " 0", false),
-        ("do 1 edit 0 64", 64, " via 0 0 7 -7", "", true),
-        ("do 1 edit 0 65", 65, " via 0 0 7 -7", "", false),
+    Ok(())
+}
+
+// The line that begins with a text and goes on with another.
+fn joined(alloc: Global, read: &str, lost: &str) -> Result<Bytes, AllocError> {
+    let mut line = Bytes::new(alloc);
+    line.append(read.as_bytes())?;
+    line.append(lost.as_bytes())?;
+    Ok(line)
+}
+
+// In the next tables each row is what a reading continues, and from the first word on that none does. By hand, the
+// line is bad where the first part ends, which is the line's length where it ends too early.
+
+#[test]
+fn a_step_is_bad_at_its_first_lost_word(rt: HostRuntime) -> Result<(), Fail> {
+    for (read, lost) in [
+        ("", ""),
+        ("", " do 1 edit 0 0"),
+        ("", "Do 1 edit 0 0"),
+        ("", "do1 edit 0 0"),
+        ("do", ""),
+        ("do ", ""),
+        ("do ", "0 edit 0 0"),
+        ("do ", "9 edit 0 0"),
+        ("do ", "01 edit 0 0"),
+        ("do ", "+1 edit 0 0"),
+        ("do ", " 1 edit 0 0"),
+        ("do ", "1\tedit 0 0"),
+        ("do 1", ""),
+        ("do 1 ", ""),
+        ("do 1 ", "edits 0 0"),
+        ("do 1 ", " edit 0 0"),
+        ("do 1 ", "reserve 01"),
+    ] {
+        let line = joined(rt.alloc(), read, lost)?;
+        let at = bad_at(rt.alloc(), line.as_slice());
+        assert_eq!(rt; at, Some(read.len() as u32), "{read}, then {lost}");
+    }
+    Ok(())
+}
+
+#[test]
+fn an_edit_is_bad_at_its_first_lost_word(rt: HostRuntime) -> Result<(), Fail> {
+    for (read, lost) in [
+        ("do 1 edit", ""),
+        ("do 1 edit ", "257 0"),
+        ("do 1 edit ", "00 0"),
+        ("do 1 edit ", "-0 0"),
+        ("do 1 edit ", " 0"),
+        ("do 1 edit 0", ""),
+        ("do 1 edit 0 ", ""),
+        ("do 1 edit 0 ", "65"),
+        ("do 1 edit 1 ", "4294967296 0"),
+        ("do 1 edit 1 ", "01 0"),
+        ("do 1 edit 1 ", "-7 0"),
+        ("do 1 edit 1 7", ""),
+        ("do 1 edit 1 7 8 ", "0"),
+        ("do 1 edit 2 7 ", " 8 0"),
+        ("do 1 edit 0 0 ", ""),
+        ("do 1 edit 0 0 ", "0"),
+        ("do 1 edit 0 1", ""),
+        ("do 1 edit 0 1 ", "wires 0 0 1 2 0 0 0 0"),
+    ] {
+        let line = joined(rt.alloc(), read, lost)?;
+        let at = bad_at(rt.alloc(), line.as_slice());
+        assert_eq!(rt; at, Some(read.len() as u32), "{read}, then {lost}");
+    }
+    Ok(())
+}
+
+#[test]
+fn a_wire_is_bad_at_its_first_lost_word(rt: HostRuntime) -> Result<(), Fail> {
+    for (read, lost) in [
+        ("do 1 edit 0 1 wire ", "4294967296 0 1 2 0 0 0 0"),
+        ("do 1 edit 0 1 wire ", "00 0 1 2 0 0 0 0"),
+        ("do 1 edit 0 1 wire 0 ", "4294967296 1 2 0 0 0 0"),
+        ("do 1 edit 0 1 wire 0 0 ", "0 2 0 0 0 0"),
+        ("do 1 edit 0 1 wire 0 0 ", "100000001 2 0 0 0 0"),
+        ("do 1 edit 0 1 wire 0 0 1 ", "1 0 0"),
+        ("do 1 edit 0 1 wire 0 0 1 2 ", "-1000000001 0 0 0"),
+        ("do 1 edit 0 1 wire 0 0 1 2 ", "-0 0 0 0"),
+        ("do 1 edit 0 1 wire 0 0 1 2 ", "- 0 0 0"),
+        ("do 1 edit 0 1 wire 0 0 1 2 ", "+1 0 0 0"),
+        ("do 1 edit 0 1 wire 0 0 1 2 ", " 0 0 0 0"),
+        ("do 1 edit 0 1 wire 0 0 1 2 0 0 ", "1000000001 0"),
+        ("do 1 edit 0 1 wire 0 0 1 2 0 0 0", ""),
+        ("do 1 edit 0 1 wire 0 0 1 2 0 0 0 0 ", ""),
+        ("do 1 edit 0 1 wire 0 0 1 2 0 0 0 0 ", "0 0"),
+        ("do 1 edit 0 1 wire 0 0 1 3 0 0 0 0", ""),
+    ] {
+        let line = joined(rt.alloc(), read, lost)?;
+        let at = bad_at(rt.alloc(), line.as_slice());
+        assert_eq!(rt; at, Some(read.len() as u32), "{read}, then {lost}");
+    }
+    Ok(())
+}
+
+#[test]
+fn a_via_is_bad_at_its_first_lost_word(rt: HostRuntime) -> Result<(), Fail> {
+    for (read, lost) in [
+        ("do 1 edit 0 1 via ", "4294967296 0 0 0"),
+        ("do 1 edit 0 1 via 0 ", "4294967296 0 0"),
+        ("do 1 edit 0 1 via 0 0 ", "1000000001 0"),
+        ("do 1 edit 0 1 via 0 0 0 ", "-1000000001"),
+        ("do 1 edit 0 1 via 0 0 0", ""),
+        ("do 1 edit 0 1 via 0 0 0 0 ", "via 0 0 0 0"),
+        ("do 1 edit 0 2 via 0 0 0 0", ""),
+    ] {
+        let line = joined(rt.alloc(), read, lost)?;
+        let at = bad_at(rt.alloc(), line.as_slice());
+        assert_eq!(rt; at, Some(read.len() as u32), "{read}, then {lost}");
+    }
+    Ok(())
+}
+
+// By hand: a count out of range is bad where it stands, and a missing thing where the line ends.
+#[test]
+fn as_many_things_are_read_as_are_counted(rt: HostRuntime) -> Result<(), Fail> {
+    for (front, count, part, back, want) in [
+        ("do 1 edit 0 1 wire 0 0 1 256", 256, " 7 -7", "", None),
+        ("do 1 edit 0 1 wire 0 0 1 257", 257, " 7 -7", "", Some(25)),
+        ("do 1 edit 0 1 wire 0 0 1 256", 255, " 7 -7", "", Some(1303)),
+        ("do 1 edit 256", 256, " 7", " 0", None),
+        ("do 1 edit 257", 257, " 7", " 0", Some(10)),
+        ("do 1 edit 0 64", 64, " via 0 0 7 -7", "", None),
+        ("do 1 edit 0 65", 65, " via 0 0 7 -7", "", Some(12)),
+        ("do 1 edit 0 1 via 0 0 ", 1, "1000000001", " 0", Some(22)),
+        ("", 8192, "x", "", Some(0)),
     ] {
         let mut line = Bytes::new(rt.alloc());
         line.append(front.as_bytes())?;
@@ -78,9 +168,42 @@ fn just_the_lines_of_the_form_are_read(rt: HostRuntime) -> Result<(), Fail> {
             line.append(part.as_bytes())?;
         }
         line.append(back.as_bytes())?;
-        let step = read_step(rt.alloc(), line.as_slice())?;
-        assert_eq!(rt; step.is_some(), readable, "{count} of {part}");
+        let at = bad_at(rt.alloc(), line.as_slice());
+        assert_eq!(rt; at, want, "{front} and {count} of {part}");
     }
+    Ok(())
+}
+
+// The line with as many deletes, adds and points as may be, each number as long as may be.
+fn longest_line(alloc: Global) -> Result<Bytes, AllocError> {
+    let mut line = Bytes::new(alloc);
+    line.append(b"do 8 edit 256".as_slice())?;
+    for _ in 0..256 {
+        line.append(b" 4294967295".as_slice())?;
+    }
+    line.append(b" 64".as_slice())?;
+    for _ in 0..64 {
+        line.append(b" wire 4294967295 4294967295 100000000 256".as_slice())?;
+        for _ in 0..256 {
+            line.append(b" -1000000000 -1000000000".as_slice())?;
+        }
+    }
+    Ok(line)
+}
+
+// By hand: 13 + 256 * 11 + 3 + 64 * (41 + 256 * 24) bytes.
+#[test]
+fn the_longest_line_is_read(rt: HostRuntime) -> Result<(), Fail> {
+    a_step_is_short();
+    let mut line = longest_line(rt.alloc())?;
+    assert_eq!(rt; line.len(), 398_672, "its length");
+    assert_eq!(rt; bad_at(rt.alloc(), line.as_slice()), None, "as it is");
+    line.append(b" ".as_slice())?;
+    assert_eq!(rt;
+        bad_at(rt.alloc(), line.as_slice()),
+        Some(398_673),
+        "with a space behind it"
+    );
     Ok(())
 }
 
@@ -89,6 +212,9 @@ fn just_the_lines_of_the_form_are_read(rt: HostRuntime) -> Result<(), Fail> {
 fn what_was_read_is_written_as_an_entry(rt: HostRuntime) -> Result<(), Fail> {
     step_is_one_line();
     one_step();
+    one_bad_byte();
+    a_step_is_not_bad();
+    each_line_has_a_step_or_is_bad();
     for (line, want) in [
         (
             "do 2 edit 0 1 wire 3 1 250000 2 0 -5 1000000 0",
@@ -106,8 +232,8 @@ fn what_was_read_is_written_as_an_entry(rt: HostRuntime) -> Result<(), Fail> {
         ("do 1 edit 0 0", "entry 12 1 edit 0 0\n"),
     ] {
         let mut out = Bytes::new(rt.alloc());
-        let step = read_step(rt.alloc(), line.as_bytes())?;
-        if let Some(ScriptStep::Do { client, request }) = step {
+        let step = decode_script_line(rt.alloc(), line.as_bytes());
+        if let Ok(ScriptStep::Do { client, request }) = step {
             let entry = Entry {
                 number: 12,
                 client,

@@ -1,6 +1,7 @@
 //! Entries and replies as lines of text.
 ghost use Rattle.std.specs.Prelude.{◌≡◌, ◌++◌, ◌∷◌, [], OnOk, codes, List, ℕ};
-ghost use Rattle.session_wire.specs.Requests.{number_text, request_text};
+ghost use Rattle.session_wire.specs.Numbers.{number_text};
+ghost use Rattle.session_wire.specs.Requests.{request_text};
 ghost use Rattle.session_wire.specs.Replies.{reply_text};
 ghost use Rattle.session_wire.specs.Lines.{act_text, entry_text, entry_line, reply_line};
 

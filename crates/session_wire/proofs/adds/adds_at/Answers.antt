@@ -1,9 +1,9 @@
-use Rattle.std.proofs.Common.{◌<◌, arith}
-use Rattle.session_wire.proofs.AddTexts.{all_adds, no_add}
-use Rattle.session_wire.proofs.Things.{no_more}
+use Rattle.std.proofs.Common.{arith}
+use Rattle.session_wire.proofs.Halts.{handed_halt}
+use Rattle.session_wire.proofs.AddTexts.{all_adds}
+use Rattle.session_wire.proofs.Things.{stops_in_things}
 use Rattle.session_wire.proofs.adds.adds_at.Goals as goal
 
-pub returns-in_default-clause-none : goal.returns-in_default-clause-none
-returns-in_default-clause-none c =
-    let fewer : c.loop-turn._turn < c.args.count = omega (arith, c.loop-turn-test.true) in
-    no_more all_adds c.loop-turn._turn c.args.count c.args.text.now c.loop-turn.adds c.loop-turn.rest.now c.loop-turn.invariant fewer (no_add c.loop-turn.rest.now (rw c.in_default.is at c.in_ok-add.ensures.none))
+pub returns-in_err-add-clause-err : goal.returns-in_err-add-clause-err
+returns-in_err-add-clause-err c =
+    handed_halt _ c.in_err-add.field-0.0 c.from_residual.ensures.1 c.in_err-add.ensures.err (λ left. stops_in_things all_adds c.loop-turn._turn c.args.count c.args.line.now c.loop-turn.adds c.loop-turn.rest.now left c.loop-turn.invariant (omega (arith, c.loop-turn-test.true)))

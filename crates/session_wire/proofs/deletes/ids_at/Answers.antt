@@ -1,9 +1,9 @@
-use Rattle.std.proofs.Common.{◌<◌, arith}
+use Rattle.std.proofs.Common.{arith}
+use Rattle.session_wire.proofs.Halts.{handed_count}
 use Rattle.session_wire.proofs.PointTexts.{ids}
-use Rattle.session_wire.proofs.Things.{no_more}
+use Rattle.session_wire.proofs.Things.{stops_in_things}
 use Rattle.session_wire.proofs.deletes.ids_at.Goals as goal
 
-pub returns-in_default-clause-none : goal.returns-in_default-clause-none
-returns-in_default-clause-none c =
-    let fewer : c.loop-turn._turn < c.args.count = omega (arith, c.loop-turn-test.true) in
-    no_more ids c.loop-turn._turn c.args.count c.args.text.now c.loop-turn.ids c.loop-turn.rest.now c.loop-turn.invariant fewer c.in_default.ensures.none
+pub returns-in_err-id-clause-err : goal.returns-in_err-id-clause-err
+returns-in_err-id-clause-err c =
+    handed_count _ c.in_err-id.field-0.0 c.from_residual.ensures.1 (stops_in_things ids c.loop-turn._turn c.args.count c.args.line.now c.loop-turn.ids c.loop-turn.rest.now c.in_err-id.field-0.0 c.loop-turn.invariant (omega (arith, c.loop-turn-test.true)) c.in_err-id.ensures.err)

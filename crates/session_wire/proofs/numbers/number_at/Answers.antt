@@ -1,22 +1,11 @@
-use Rattle.std.proofs.Common.{◌<◌, ◌^◌, arith}
-use Rattle.session_wire.proofs.Parts.{number_digits, number_is}
+use Rattle.std.proofs.Common.{arith}
+use Rattle.session_wire.proofs.NumberTexts.{no_number, bad_number}
 use Rattle.session_wire.proofs.numbers.number_at.Goals as goal
 
-pub returns-in_err-number-clause-none : goal.returns-in_err-number-clause-none
-returns-in_err-number-clause-none c = rw c.from_residual.ensures (λ n rest low high stop e.
-    let short : n < 2 ^ 32 = omega arith in
-    c.in_err-number.ensures.none n short (number_digits n c.args.line.now c.digits_at.result.0.now c.digits_at.result.1.now rest short c.digits_at.ensures.digits c.digits_at.ensures.stop stop c.digits_at.ensures.parts e))
+pub returns-in_default-clause-err : goal.returns-in_default-clause-err
+returns-in_default-clause-err c = no_number c.args.least c.args.most c.args.line.now c.requires.some c.in_default.ensures.none
 
-pub returns-then-number-least-clause-none : goal.returns-then-number-least-clause-none
-returns-then-number-least-clause-none c = λ n rest low high stop e.
-    let short : n < 2 ^ 32 = omega arith in
-    let some = c.in_ok-number.ensures.some in
-    let same = number_is n c.in_ok-number.number c.args.line.now c.digits_at.result.0.now c.digits_at.result.1.now rest short some.0 c.digits_at.ensures.digits c.digits_at.ensures.stop stop some.1 c.digits_at.ensures.parts e in
-    absurd (omega (arith, same))
-
-pub returns-then-most-number-clause-none : goal.returns-then-most-number-clause-none
-returns-then-most-number-clause-none c = λ n rest low high stop e.
-    let short : n < 2 ^ 32 = omega arith in
-    let some = c.in_ok-number.ensures.some in
-    let same = number_is n c.in_ok-number.number c.args.line.now c.digits_at.result.0.now c.digits_at.result.1.now rest short some.0 c.digits_at.ensures.digits c.digits_at.ensures.stop stop some.1 c.digits_at.ensures.parts e in
-    absurd (omega (arith, same))
+pub returns-in-None-clause-err : goal.returns-in-None-clause-err
+returns-in-None-clause-err c =
+    let word = c.in-Some.ensures.some in
+    bad_number c.args.least c.args.most c.args.line.now c.in-Some.word.now c.in-Some.rest.now c.requires.some (omega arith) word.0 word.1 word.2 c.in-None.ensures.none

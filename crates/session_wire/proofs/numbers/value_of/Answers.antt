@@ -1,6 +1,6 @@
 use Rattle.std.proofs.Common.{sym, ◌∙◌}
 use Rattle.session_wire.proofs.Digits.{digits_utf8}
-use Rattle.session_wire.proofs.Parts.{err_says}
+use Rattle.session_wire.proofs.NumberTexts.{err_says}
 use Rattle.session_wire.proofs.numbers.value_of.Goals as goal
 
 pub returns-in_err-text-clause-none : goal.returns-in_err-text-clause-none

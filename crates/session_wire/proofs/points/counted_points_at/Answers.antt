@@ -1,13 +1,13 @@
 use Rattle.std.proofs.Common.{arith}
-use Rattle.session_wire.proofs.Parts.{ok_none_then}
+use Rattle.session_wire.proofs.Halts.{handed_count, same_halt}
 use Rattle.session_wire.proofs.PointTexts.{points}
-use Rattle.session_wire.proofs.Things.{no_count, no_things}
+use Rattle.session_wire.proofs.Things.{stops_at_count, stops_behind_count}
 use Rattle.session_wire.proofs.points.counted_points_at.Goals as goal
 
-pub returns-in-Some-clause-none : goal.returns-in-Some-clause-none
-returns-in-Some-clause-none c =
-    let some = c.in-Some.ensures.some in
-    ok_none_then c.points_at.result c.points_at.ensures.none (no_things points 2 256 c.in-Some.count c.args.text.now c.in-Some.rest.now (omega arith) some.1 some.2 some.3)
+pub returns-in_err-count-clause-err : goal.returns-in_err-count-clause-err
+returns-in_err-count-clause-err c =
+    handed_count _ c.in_err-count.field-0.0 c.from_residual.ensures.1 (stops_at_count points 2 256 c.args.line.now c.in_err-count.field-0.0 c.requires c.in_err-count.ensures.err)
 
-pub returns-in-None-clause-none : goal.returns-in-None-clause-none
-returns-in-None-clause-none c = no_count points 2 256 c.args.text.now c.in-None.ensures.none
+pub returns-clause-err : goal.returns-clause-err
+returns-clause-err c =
+    same_halt c.points_at.result c.points_at.ensures.err (λ left. stops_behind_count points 2 256 c.in_ok-count.count c.args.line.now c.in_ok-count.rest.now left (omega arith) c.in_ok-count.ensures.ok)

@@ -1,9 +1,9 @@
-use Rattle.std.proofs.Common.{◌<◌, arith}
-use Rattle.session_wire.proofs.PointTexts.{points, no_point}
-use Rattle.session_wire.proofs.Things.{no_more}
+use Rattle.std.proofs.Common.{arith}
+use Rattle.session_wire.proofs.Halts.{handed_count}
+use Rattle.session_wire.proofs.PointTexts.{points}
+use Rattle.session_wire.proofs.Things.{stops_in_things}
 use Rattle.session_wire.proofs.points.points_at.Goals as goal
 
-pub returns-in_default-clause-none : goal.returns-in_default-clause-none
-returns-in_default-clause-none c =
-    let fewer : c.loop-turn._turn < c.args.count = omega (arith, c.loop-turn-test.true) in
-    no_more points c.loop-turn._turn c.args.count c.args.text.now c.loop-turn.points c.loop-turn.rest.now c.loop-turn.invariant fewer (no_point c.loop-turn.rest.now c.in_default.ensures.none)
+pub returns-in_err-point-clause-err : goal.returns-in_err-point-clause-err
+returns-in_err-point-clause-err c =
+    handed_count _ c.in_err-point.field-0.0 c.from_residual.ensures.1 (stops_in_things points c.loop-turn._turn c.args.count c.args.line.now c.loop-turn.points c.loop-turn.rest.now c.in_err-point.field-0.0 c.loop-turn.invariant (omega (arith, c.loop-turn-test.true)) c.in_err-point.ensures.err)

@@ -1,6 +1,6 @@
 use Rattle.std.proofs.Common.{◌≡◌, ◌++◌, drop}
 use Rattle.std.specs.List.{flat_map}
-use Rattle.session_wire.specs.Requests.{number_text}
+use Rattle.session_wire.specs.Numbers.{number_text}
 use Rattle.session_wire.proofs.put_parts.put_numbers.Given as goal
 
 abbrev pub invariant-loop-number : goal.invariant-loop-number

@@ -1,6 +1,6 @@
 use Rattle.std.proofs.Common.{◌≡◌, ◌++◌, drop}
 use Rattle.std.specs.List.{flat_map}
-use Rattle.session_wire.specs.Requests.{point_text}
+use Rattle.session_wire.specs.Points.{point_text}
 use Rattle.session_wire.proofs.put_parts.put_points.Given as goal
 
 abbrev pub invariant-loop-point : goal.invariant-loop-point

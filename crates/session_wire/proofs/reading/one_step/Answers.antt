@@ -1,5 +1,0 @@
-use Rattle.session_wire.proofs.StepTexts.{one_step}
-use Rattle.session_wire.proofs.reading.one_step.Goals as goal
-
-pub returns : goal.returns
-returns c = one_step

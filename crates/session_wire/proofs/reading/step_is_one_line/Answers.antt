@@ -1,5 +1,0 @@
-use Rattle.session_wire.proofs.LineFeeds.{step_is_one_line}
-use Rattle.session_wire.proofs.reading.step_is_one_line.Goals as goal
-
-pub returns : goal.returns
-returns c = step_is_one_line
