@@ -24,9 +24,10 @@ use Rattle.dsn_library.specs.declared.image_lists.ImageWord.TheVariants as words
 use Rattle.dsn_library.specs.Images.{PinWords, pin_of, number_with, with_pin, with_keep, image_word, image_list, image_item, no_image}
 use Rattle.dsn_library.specs.ImageLists.{IsPin, behind_lists}
 use Rattle.dsn_library.specs.ImageMeaning.{IsOfImage, IsImageList, id_of_list, ids_in, IsPart, part_of_list, parts_in, AreParts, HasParts, OfImageFault, ImageListFault}
-use Rattle.dsn_library.specs.NewNames.{first_name}
+use Rattle.dsn_lists.specs.NewNames.{first_name}
 use Rattle.dsn_library.proofs.PinListLaws.{pin_found, pin_again, pin_fault, pin_fault_again}
-use Rattle.dsn_library.proofs.Growing.{Grows, grows_same, grows_then, grows_all, place_with}
+use Rattle.dsn_lists.proofs.Growing.{Grows, grows_same, grows_then}
+use Rattle.dsn_library.proofs.Growing.{grows_all, place_with}
 
 -- ---- what lists add to an image
 

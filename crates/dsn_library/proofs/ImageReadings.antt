@@ -10,12 +10,13 @@ use Rattle.dsn_lists.specs.Words.{mark, word_of}
 use Rattle.dsn_lists.specs.Units.{governing}
 use Rattle.dsn_lists.specs.Lists.{Every, told, IsFirst}
 use Rattle.dsn_lists.specs.Measures.{governing_unit}
-use Rattle.dsn_lists.proofs.Firsts.{made, ok_is, bind_ok, bind_err, guard_ok, guard_err, word_fault, word_fault_again}
+use Rattle.dsn_lists.proofs.Firsts.{made, ok_is, bind_ok, bind_err, word_fault, word_fault_again}
 use Rattle.dsn_lists.proofs.UnitLaws.{governs}
+use Rattle.dsn_lists.proofs.NewNameLaws.{fresh_found, fresh_again, fresh_fault, fresh_fault_again}
 use Rattle.dsn_library.specs.declared.images.Image.{Image}
-use Rattle.dsn_library.specs.Images.{image_item, new_image, no_image, image_of}
+use Rattle.dsn_library.specs.Images.{image_item, no_image, image_of}
 use Rattle.dsn_library.specs.ImageMeaning.{IsImageList, HasParts, IsImage, ImageListFault, ImageFault}
-use Rattle.dsn_library.specs.NewNames.{first_name}
+use Rattle.dsn_lists.specs.NewNames.{first_name, fresh_name}
 use Rattle.dsn_library.proofs.ImageListLaws.{parts_found, parts_again, lists_fault, lists_fault_again}
 
 -- ---- the lists, where a unit governs
@@ -26,7 +27,7 @@ lists_rest u layers stacks name f = each (image_item (governing u f) layers stac
 
 -- what follows the word of the name
 abbrev name_rest : LengthUnit → List (List ℕ) → List (List ℕ) → List (List ℕ) → ℕ → List ℕ → Forest → Read (List ℕ × Image)
-name_rest u layers stacks images a text f = new_image images (mark a text) >>= λ _. lists_rest u layers stacks text f
+name_rest u layers stacks images a text f = fresh_name images (mark a text) >>= λ _. lists_rest u layers stacks text f
 
 abbrev pair : List ℕ → Image → List ℕ × Image
 pair name m = (name, m)
@@ -46,37 +47,17 @@ FirstFault w layers stacks f e = IsFirst (Every (IsImageList w layers stacks)) (
 
 -- ---- an image
 
-new_ok : (images : List (List ℕ)) (a : ℕ) (text : List ℕ) (x : Unit {0}) → new_image images (mark a text) ≡ Ok x → is_among text images ≡ false
-unfolding new_image
-new_ok images a text x e = (guard_ok (is_among text images) (told kind.Twice a) (made tt) x e).0
-
-new_again : (images : List (List ℕ)) (a : ℕ) (text : List ℕ) → is_among text images ≡ false → new_image images (mark a text) ≡ Ok tt
-unfolding new_image
-new_again images a text h = rw h refl
-
-new_err : (images : List (List ℕ)) (a : ℕ) (text : List ℕ) (e : DesignFault) → new_image images (mark a text) ≡ Err e → (is_among text images ≡ true) × (e ≡ told kind.Twice a)
-unfolding new_image
-new_err images a text e h =
-    elim (guard_err (is_among text images) (told kind.Twice a) (made tt) e h) [
-      | inl old ↦ old
-      | inr later ↦ absurd cc
-    ]
-
-new_err_again : (images : List (List ℕ)) (a : ℕ) (text : List ℕ) (e : DesignFault) → is_among text images ≡ true → e ≡ told kind.Twice a → new_image images (mark a text) ≡ Err e
-unfolding new_image
-new_err_again images a text e old is = rw (old, is) refl
-
 pub image_found : (u : LengthUnit) (layers stacks images : List (List ℕ)) (at : ℕ) (f : Forest) (x : List ℕ × Image) → image_of u layers stacks images at f ≡ Ok x → IsImage u layers stacks f x.1 × (first_name f ≡ x.0 ∷ []) × (is_among x.0 images ≡ false)
 unfolding image_of word_of
 image_found u layers stacks images at End x e = absurd cc
 image_found u layers stacks images at (Branch a inside rest) x e = absurd cc
 image_found u layers stacks images at (Word a text rest) x e =
-    let new = bind_ok (new_image images (mark a text)) (λ _. lists_rest u layers stacks text rest) x e in
+    let new = bind_ok (fresh_name images (mark a text)) (λ _. lists_rest u layers stacks text rest) x e in
     let m = bind_ok (each (image_item (governing u rest) layers stacks) no_image rest) (λ m. made (pair text m)) x new.2 in
     let same = parts_of_pair text m.0 x m.2 in (
       subst (λ (y : Image). HasParts (governing_unit u rest) layers stacks rest y) same.1 (governed u layers stacks rest m.0 m.1),
       ap (λ (y : List ℕ). y ∷ []) same.0,
-      subst (λ (y : List ℕ). is_among y images ≡ false) same.0 (new_ok images a text new.0 new.1),
+      subst (λ (y : List ℕ). is_among y images ≡ false) same.0 (fresh_found images a text new.0 new.1),
     )
 
 pub image_again : (u : LengthUnit) (layers stacks images : List (List ℕ)) (at : ℕ) (f : Forest) (name : List ℕ) (m : Image) → IsImage u layers stacks f m → first_name f ≡ name ∷ [] → is_among name images ≡ false → image_of u layers stacks images at f ≡ Ok (name, m)
@@ -86,7 +67,7 @@ image_again u layers stacks images at (Branch a inside rest) name m h is new = a
 image_again u layers stacks images at (Word a text rest) name m h is new =
     let same : text ≡ name = first_is text name is in
     let fresh = subst (λ (y : List ℕ). is_among y images ≡ false) (sym same) new in
-    rw (new_again images a text fresh, governed_again u layers stacks rest m h) (ap (λ (y : List ℕ). made (pair y m)) same)
+    rw (fresh_again images a text fresh, governed_again u layers stacks rest m h) (ap (λ (y : List ℕ). made (pair y m)) same)
   where
     first_is : (x y : List ℕ) → x ∷ [] ≡ y ∷ [] → x ≡ y
     first_is x y e = cc
@@ -126,16 +107,16 @@ rest_fault u layers stacks name rest e h =
 
 name_fault : (u : LengthUnit) (layers stacks images : List (List ℕ)) (a : ℕ) (text : List ℕ) (rest : Forest) (e : DesignFault) → name_rest u layers stacks images a text rest ≡ Err e → NameFault u layers stacks images a text rest e
 name_fault u layers stacks images a text rest e h =
-    elim (bind_err (new_image images (mark a text)) (λ _. lists_rest u layers stacks text rest) e h) [
-      | inl here ↦ inl (new_err images a text e here)
-      | inr later ↦ inr (new_ok images a text later.0 later.1, rest_fault u layers stacks text rest e later.2)
+    elim (bind_err (fresh_name images (mark a text)) (λ _. lists_rest u layers stacks text rest) e h) [
+      | inl here ↦ inl (fresh_fault images a text e here)
+      | inr later ↦ inr (fresh_found images a text later.0 later.1, rest_fault u layers stacks text rest e later.2)
     ]
 
 name_fault_again : (u : LengthUnit) (layers stacks images : List (List ℕ)) (a : ℕ) (text : List ℕ) (rest : Forest) (e : DesignFault) → NameFault u layers stacks images a text rest e → name_rest u layers stacks images a text rest ≡ Err e
-name_fault_again u layers stacks images a text rest e (inl old) = rw (new_err_again images a text e old.0 old.1) refl
+name_fault_again u layers stacks images a text rest e (inl old) = rw (fresh_fault_again images a text e old.0 old.1) refl
 name_fault_again u layers stacks images a text rest e (inr later) =
     let first = subst (λ (w : LengthUnit). FirstFault w layers stacks rest e) (sym (governs u rest)) later.1 in
-    rw (new_again images a text later.0, lists_fault_again (governing u rest) layers stacks rest e first) refl
+    rw (fresh_again images a text later.0, lists_fault_again (governing u rest) layers stacks rest e first) refl
 
 pub image_fault : (u : LengthUnit) (layers stacks images : List (List ℕ)) (at : ℕ) (f : Forest) (e : DesignFault) → image_of u layers stacks images at f ≡ Err e → ImageFault u layers stacks images at f e
 unfolding image_of

@@ -84,8 +84,8 @@ still_few xs h = let same = ap length (append-nil xs) in omega arith
 one_more : (xs : List (List ℕ)) (n : List ℕ) → length xs < 65535 → length (xs ++ n ∷ []) ≤ 65535
 one_more xs n h = let sum = length-append xs (n ∷ []) in omega arith
 
-room : (xs : List (List ℕ)) (n : List ℕ) → length (xs ++ n ∷ []) ≤ 65535 → length xs < 65535
-room xs n h = let sum = length-append xs (n ∷ []) in omega arith
+quota : (xs : List (List ℕ)) (n : List ℕ) → length (xs ++ n ∷ []) ≤ 65535 → length xs < 65535
+quota xs n h = let sum = length-append xs (n ∷ []) in omega arith
 
 pub one_found : (u : LengthUnit) (layers stacks : List (List ℕ)) (l : Library) (at : ℕ) (h : Heading) (k : LibraryWord) (m : Library) → length l.names ≤ 65535 → library_list u layers stacks l at h k ≡ Ok m → IsGood u layers stacks l k h.args × (m ≡ next u layers stacks l k h.args)
 one_found u layers stacks l at h words.Stack m few e =
@@ -120,7 +120,7 @@ pub one_again : (u : LengthUnit) (layers stacks : List (List ℕ)) (l : Library)
 one_again u layers stacks l at h words.Stack g =
     let name = stack_name u layers h.args g.formed.0 g.formed.1 in
     let fresh = fresh_head l.names g.formed.0.name [] (subst (λ (xs : List (List ℕ)). AreFreshBehind l.names xs) name g.fresh) in
-    let few = room l.names g.formed.0.name (subst (λ (xs : List (List ℕ)). length (l.names ++ xs) ≤ 65535) name g.few) in
+    let few = quota l.names g.formed.0.name (subst (λ (xs : List (List ℕ)). length (l.names ++ xs) ≤ 65535) name g.few) in
     rw (stack_again u layers l.names at h.args g.formed.0 g.formed.1 (fresh, few)) (ap made (adding_stack l g.formed.0 _ _ name (stack_is u layers h.args g.formed.0 g.formed.1)))
 one_again u layers stacks l at h words.Image g =
     let name = image_name u layers stacks h.args g.formed.0 g.formed.1 in

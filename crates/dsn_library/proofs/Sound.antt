@@ -40,16 +40,15 @@ use Rattle.dsn_library.specs.declared.library.Library.{Library}
 use Rattle.dsn_library.specs.declared.library.LibraryWord.{LibraryWord}
 use Rattle.dsn_library.specs.declared.library.LibraryWord.TheVariants as words
 use Rattle.dsn_library.specs.Images.{PinWords, image_of}
-use Rattle.dsn_library.specs.Libraries.{not_first, stack_word, stack_list, stack_item, nothing_drawn, new_stack, as_stack, stack_of, library_word, library_list, library_item, no_library, all_stacks, library_at, library_of}
-use Rattle.dsn_library.specs.NewNames.{first_name}
+use Rattle.dsn_library.specs.Libraries.{not_first, stack_word, stack_list, stack_item, nothing_drawn, as_stack, stack_of, library_word, library_list, library_item, no_library, all_stacks, library_at, library_of}
+use Rattle.dsn_lists.specs.NewNames.{first_name, new_name}
 use Rattle.dsn_library.specs.AngleWords.{HasAngle}
 use Rattle.dsn_library.specs.ImageLists.{first_lists, behind_lists, rotates_in, StateTurn, IsRotate, IsPin}
 use Rattle.dsn_library.specs.ImageMeaning.{IsPart, AreParts, parts_in, IsImage}
 use Rattle.dsn_library.specs.StackLists.{IsStack}
 use Rattle.dsn_library.specs.LibraryParts.{padstacks, IsOfLibrary, IsLibraryList, name_of_list, names_in, stacks_in, AreStacks, image_name_of_list, image_names_in, images_in, AreImages}
 use Rattle.dsn_library.specs.LibraryMeaning.{IsSection}
-use Rattle.dsn_library.specs.Limits.{IsFitStack, IsFitImagePart, IsFitImage, IsFitLibrary, HaveAtMost}
-use Rattle.dsn_library.specs.PlaceLimits.{IsFitPart, HasFitShapes}
+use Rattle.dsn_library.specs.Limits.{IsFitStack, IsFitImagePart, IsFitImage, IsFitLibrary}
 use Rattle.dsn_library.proofs.StackReadings.{stack_again, stack_name, stack_is}
 use Rattle.dsn_library.proofs.ImageReadings.{image_name, image_is}
 use Rattle.dsn_library.proofs.LibraryListLaws.{value_of_list, image_of_value}
@@ -84,7 +83,7 @@ stack_parts : (u : LengthUnit) (layers names : List (List ℕ)) (at : ℕ) (f : 
 unfolding stack_of
 stack_parts u layers names at f y e =
     let a = bind_ok (word_of at f) _ y e in
-    let b = bind_ok (new_stack names a.0.0) _ y a.2 in
+    let b = bind_ok (new_name 65535 names a.0.0) _ y a.2 in
     let c = bind_ok (each (stack_item u layers) nothing_drawn a.0.1) _ y b.2 in
     (a.0, c.0, a.1, c.1, as_stack_shapes at a.0.0.name c.0 y c.2)
 
@@ -250,23 +249,6 @@ section_fit u layers f l h =
 pub library_of_fit : (f : Forest) (layers : List (List ℕ)) (y : Library) → library_of f layers ≡ Ok y → IsFitLibrary (length layers) y
 library_of_fit f layers y e = let h = has_found f layers y e in section_fit (governing_unit h.0.unit (section_in sections.Library f).args) layers (section_in sections.Library f).args y h.2
 
--- ---- the shapes that a placement needs
-
-fit_own : (layers stacks ids : ℕ) (ps : List ImagePart) → AllByRecursion (IsFitImagePart layers stacks ids) ps → AllByRecursion (IsFitPart layers) ps
-fit_own layers stacks ids [] h = tt
-fit_own layers stacks ids (p ∷ ps) h = (one p h.0, fit_own layers stacks ids ps h.1)
-  where
-    one : (q : ImagePart) → IsFitImagePart layers stacks ids q → IsFitPart layers q
-    one (parts.Pin stack id eighths at) h = tt
-    one (parts.Keep k shapes) h = h
-
-fit_all : (layers stacks : ℕ) (ms : List Image) → AllByRecursion (IsFitImage layers stacks) ms → AllByRecursion (λ (m : Image). AllByRecursion (IsFitPart layers) m.parts) ms
-fit_all layers stacks [] h = tt
-fit_all layers stacks (m ∷ ms) h = (fit_own layers stacks (length m.ids) m.parts h.0, fit_all layers stacks ms h.1)
-
-pub fit_shapes : (layers : ℕ) (l : Library) → IsFitLibrary layers l → HasFitShapes layers l
-fit_shapes layers l h = record { stacks = h.shapes; images = fit_all layers (length l.stacks) l.images h.images }
-
 -- ---- how many shapes a padstack has
 
 grown_stack_list : (u : LengthUnit) (layers : List (List ℕ)) (d : Drawn) (at : ℕ) (h : Heading) (w : StackWord) (y : Drawn) → stack_list u layers d at h w ≡ Ok y → length y.shapes ≤ length d.shapes + 32 * size h.args
@@ -298,6 +280,10 @@ few_stack_of u layers names at f y e =
     let less = word_of_size at f s.0 s.2 in
     let same = ap (λ (ss : List Shape). length ss) s.4 in
     omega (arith, own, less, same)
+
+-- no padstack has more shapes
+abbrev pub HaveAtMost : ℕ → List Padstack → Type 0
+HaveAtMost most stacks = AllByRecursion (λ (p : Padstack). length p.shapes ≤ most) stacks
 
 abbrev HasAtMost : ℕ → Padstack → Type 0
 HasAtMost most p = length p.shapes ≤ most

@@ -12,10 +12,10 @@ use Rattle.dsn_lists.specs.Lists.{Joins, told}
 use Rattle.dsn_lists.proofs.Firsts.{made, ok_is, bind_ok, bind_err, word_fault, word_fault_again}
 use Rattle.dsn_lists.proofs.JoinLaws.{joins_found, joins_again, joins_fault, joins_fault_again}
 use Rattle.dsn_library.specs.declared.stacks.Drawn.{Drawn}
-use Rattle.dsn_library.specs.Libraries.{stack_item, nothing_drawn, new_stack, as_stack, stack_of}
-use Rattle.dsn_library.specs.NewNames.{IsNewName, OldNameFault, first_name}
+use Rattle.dsn_library.specs.Libraries.{stack_item, nothing_drawn, as_stack, stack_of}
+use Rattle.dsn_lists.specs.NewNames.{IsNewName, OldNameFault, first_name, new_name}
 use Rattle.dsn_library.specs.StackLists.{IsStackList, StackListFault, IsNamedStack, IsStack, NoStackFault, StackFault}
-use Rattle.dsn_library.proofs.NewNameLaws.{new_found, new_again, new_fault, new_fault_again}
+use Rattle.dsn_lists.proofs.NewNameLaws.{new_found, new_again, new_fault, new_fault_again}
 use Rattle.dsn_library.proofs.StackListLaws.{some, all_shapes, adding, list_fault, list_fault_again, lists_add}
 
 -- ---- a padstack with shapes
@@ -88,23 +88,23 @@ named_fault_again u layers at name f e (inr none) =
 
 -- what follows the word of the name
 abbrev name_rest : LengthUnit → List (List ℕ) → List (List ℕ) → ℕ → ℕ → List ℕ → Forest → Read Padstack
-name_rest u layers names at a text rest = new_stack names (mark a text) >>= λ _. lists_rest u layers at text rest
+name_rest u layers names at a text rest = new_name 65535 names (mark a text) >>= λ _. lists_rest u layers at text rest
 
 pub stack_found : (u : LengthUnit) (layers names : List (List ℕ)) (at : ℕ) (f : Forest) (p : Padstack) → stack_of u layers names at f ≡ Ok p → IsStack u layers f p × (first_name f ≡ p.name ∷ []) × IsNewName 65535 names p.name
-unfolding stack_of word_of new_stack
+unfolding stack_of word_of
 stack_found u layers names at End p e = absurd cc
 stack_found u layers names at (Branch a inside rest) p e = absurd cc
 stack_found u layers names at (Word a text rest) p e =
-    let new = bind_ok (new_stack names (mark a text)) (λ _. lists_rest u layers at text rest) p e in
+    let new = bind_ok (new_name 65535 names (mark a text)) (λ _. lists_rest u layers at text rest) p e in
     let s = named_found u layers at text rest p new.2 in
-    (s, ap (λ (x : List ℕ). x ∷ []) (sym s.name_is), subst (λ (x : List ℕ). IsNewName 65535 names x) (sym s.name_is) (new_found 65534 names a text new.0 new.1))
+    (s, ap (λ (x : List ℕ). x ∷ []) (sym s.name_is), subst (λ (x : List ℕ). IsNewName 65535 names x) (sym s.name_is) (new_found 65535 names a text new.0 new.1))
 
 pub stack_again : (u : LengthUnit) (layers names : List (List ℕ)) (at : ℕ) (f : Forest) (p : Padstack) → IsStack u layers f p → IsNewName 65535 names p.name → stack_of u layers names at f ≡ Ok p
-unfolding stack_of word_of new_stack
+unfolding stack_of word_of
 stack_again u layers names at End p h new = absurd h
 stack_again u layers names at (Branch a inside rest) p h new = absurd h
 stack_again u layers names at (Word a text rest) p h new =
-    rw (new_again 65534 names a text (subst (λ (x : List ℕ). IsNewName 65535 names x) h.name_is new)) (named_again u layers at text rest p h)
+    rw (new_again 65535 names a text (subst (λ (x : List ℕ). IsNewName 65535 names x) h.name_is new)) (named_again u layers at text rest p h)
 
 pub stack_name : (u : LengthUnit) (layers : List (List ℕ)) (f : Forest) (p : Padstack) → IsStack u layers f p → first_name f ≡ p.name ∷ []
 stack_name u layers End p h = absurd h
@@ -127,17 +127,15 @@ abbrev StackWordFault : LengthUnit → List (List ℕ) → List (List ℕ) → �
 StackWordFault u layers names at a text rest e = OldNameFault 65535 names text a e ⊎ (IsNewName 65535 names text × NoStackFault u layers at rest e)
 
 stack_word_fault : (u : LengthUnit) (layers names : List (List ℕ)) (at a : ℕ) (text : List ℕ) (rest : Forest) (e : DesignFault) → name_rest u layers names at a text rest ≡ Err e → StackWordFault u layers names at a text rest e
-unfolding new_stack
 stack_word_fault u layers names at a text rest e h =
-    elim (bind_err (new_stack names (mark a text)) (λ _. lists_rest u layers at text rest) e h) [
-      | inl here ↦ inl (new_fault 65534 names a text e here)
-      | inr later ↦ inr (new_found 65534 names a text later.0 later.1, named_fault u layers at text rest e later.2)
+    elim (bind_err (new_name 65535 names (mark a text)) (λ _. lists_rest u layers at text rest) e h) [
+      | inl here ↦ inl (new_fault 65535 names a text e here)
+      | inr later ↦ inr (new_found 65535 names a text later.0 later.1, named_fault u layers at text rest e later.2)
     ]
 
 stack_word_again : (u : LengthUnit) (layers names : List (List ℕ)) (at a : ℕ) (text : List ℕ) (rest : Forest) (e : DesignFault) → StackWordFault u layers names at a text rest e → name_rest u layers names at a text rest ≡ Err e
-unfolding new_stack
-stack_word_again u layers names at a text rest e (inl old) = rw (new_fault_again 65534 names a text e old) refl
-stack_word_again u layers names at a text rest e (inr later) = rw (new_again 65534 names a text later.0) (named_fault_again u layers at text rest e later.1)
+stack_word_again u layers names at a text rest e (inl old) = rw (new_fault_again 65535 names a text e old) refl
+stack_word_again u layers names at a text rest e (inr later) = rw (new_again 65535 names a text later.0) (named_fault_again u layers at text rest e later.1)
 
 pub stack_fault : (u : LengthUnit) (layers names : List (List ℕ)) (at : ℕ) (f : Forest) (e : DesignFault) → stack_of u layers names at f ≡ Err e → StackFault u layers names at f e
 unfolding stack_of

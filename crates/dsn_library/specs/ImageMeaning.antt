@@ -20,7 +20,7 @@ use Rattle.dsn_library.specs.declared.image_lists.ImageWord.{ImageWord}
 use Rattle.dsn_library.specs.declared.image_lists.ImageWord.TheVariants as words
 use Rattle.dsn_library.specs.Images.{PinWords, image_word}
 use Rattle.dsn_library.specs.ImageLists.{IsPin, PinFault, behind_lists}
-use Rattle.dsn_library.specs.NewNames.{first_name}
+use Rattle.dsn_lists.specs.NewNames.{first_name}
 
 -- ---- the lists of an image
 

@@ -16,6 +16,7 @@ use Rattle.dsn_lists.specs.Names.{is_among, place_of}
 use Rattle.dsn_lists.specs.Words.{Heading, same, head_of, word_of, spare}
 use Rattle.dsn_lists.specs.Units.{unit_list, governing}
 use Rattle.dsn_lists.specs.Shapes.{point_of}
+use Rattle.dsn_lists.specs.NewNames.{fresh_name}
 use Rattle.dsn_shapes.specs.Keepouts.{keep_kind, keep_shapes}
 use Rattle.dsn_library.specs.declared.images.ImagePart.TheVariants as parts
 use Rattle.dsn_library.specs.declared.images.Image.{Image}
@@ -133,10 +134,6 @@ image_list u layers stacks m at h words.Other = Ok m
 unfoldable pub image_item : LengthUnit → List (List ℕ) → List (List ℕ) → Image → ℕ → Forest → Read Image
 image_item u layers stacks m at inside = image_list u layers stacks m at (head_of inside) (image_word (head_of inside).text)
 
--- an image's name, which none before it has
-unfoldable pub new_image : List (List ℕ) → Mark → Read (Unit {0})
-new_image images w = if is_among w.name images then wrong kind.Twice w.at else Ok tt
-
 abbrev pub no_image : Image
 no_image = record { ids = []; parts = [] }
 
@@ -145,6 +142,6 @@ no_image = record { ids = []; parts = [] }
 unfoldable pub image_of : LengthUnit → List (List ℕ) → List (List ℕ) → List (List ℕ) → ℕ → Forest → Read (List ℕ × Image)
 image_of u layers stacks images at f = do
   w ← word_of at f
-  _ ← new_image images w.0
+  _ ← fresh_name images w.0
   m ← each (image_item (governing u w.1) layers stacks) no_image w.1
   Ok (w.0.name, m)

@@ -9,10 +9,10 @@ use Rattle.dsn_lists.specs.declared.faults.DesignKind.TheVariants as kind
 use Rattle.dsn_lists.specs.declared.marks.Mark.{Mark}
 use Rattle.dsn_lists.specs.declared.pcb.Section.TheVariants as sections
 use Rattle.dsn_lists.specs.Results.{Read, ◌>>=◌, wrong, each}
-use Rattle.dsn_lists.specs.Names.{is_among}
 use Rattle.dsn_lists.specs.Words.{Heading, same, head_of, word_of}
 use Rattle.dsn_lists.specs.Units.{unit_list, governing}
 use Rattle.dsn_lists.specs.Pcbs.{Spot, design_of, section_in}
+use Rattle.dsn_lists.specs.NewNames.{new_name}
 use Rattle.dsn_shapes.specs.Ahead.{names_ahead}
 use Rattle.dsn_shapes.specs.Drawn.{shapes_of}
 use Rattle.dsn_library.specs.declared.images.Image.{Image}
@@ -53,10 +53,6 @@ stack_item u layers d at inside = stack_list u layers d at (head_of inside) (sta
 abbrev pub nothing_drawn : Drawn
 nothing_drawn = record { shapes = []; drawn = false }
 
--- a padstack's name, which none before it has, of at most 65,535
-unfoldable pub new_stack : List (List ℕ) → Mark → Read (Unit {0})
-new_stack names w = if is_among w.name names then wrong kind.Twice w.at else if nat_lt 65534 (length names) then wrong kind.Large w.at else Ok tt
-
 -- a padstack has shapes
 unfoldable pub as_stack : ℕ → List ℕ → Drawn → Read Padstack
 as_stack at name d = if d.drawn then Ok (record { name = name; shapes = d.shapes }) else wrong kind.Form at
@@ -65,7 +61,7 @@ as_stack at name d = if d.drawn then Ok (record { name = name; shapes = d.shapes
 unfoldable pub stack_of : LengthUnit → List (List ℕ) → List (List ℕ) → ℕ → Forest → Read Padstack
 stack_of u layers names at f = do
   w ← word_of at f
-  _ ← new_stack names w.0
+  _ ← new_name 65535 names w.0
   d ← each (stack_item u layers) nothing_drawn w.1
   as_stack at w.0.name d
 

@@ -12,7 +12,7 @@ use Rattle.dsn_library.specs.declared.images.Image.{Image}
 use Rattle.dsn_library.specs.declared.library.LibraryWord.{LibraryWord}
 use Rattle.dsn_library.specs.declared.library.LibraryWord.TheVariants as words
 use Rattle.dsn_library.specs.Libraries.{library_word}
-use Rattle.dsn_library.specs.NewNames.{first_name}
+use Rattle.dsn_lists.specs.NewNames.{first_name}
 use Rattle.dsn_library.specs.StackLists.{IsStack}
 use Rattle.dsn_library.specs.ImageMeaning.{IsImage}
 

@@ -1,18 +1,13 @@
--- A library and a network within the limits.
-use Rattle.std.specs.Prelude.{◌≡◌, ℕ, ◌≤◌, ◌<◌, List, length}
+-- A library within the limits.
+use Rattle.std.specs.Prelude.{◌≡◌, ℕ, ◌≤◌, ◌<◌, length}
 use Rattle.std.specs.List.{AllByRecursion}
 use Rattle.seg_geometry.specs.Points.{IsInRange}
 use Rattle.board_items.specs.declared.items.Padstack.{Padstack}
-use Rattle.dsn_lists.specs.Limits.{IsFitRule}
 use Rattle.dsn_shapes.specs.Limits.{AreFitDrawn}
-use Rattle.dsn_library.specs.declared.classes.Class.{Class}
 use Rattle.dsn_library.specs.declared.images.Image.{Image}
 use Rattle.dsn_library.specs.declared.images.ImagePart.{ImagePart}
 use Rattle.dsn_library.specs.declared.images.ImagePart.TheVariants as parts
 use Rattle.dsn_library.specs.declared.library.Library.{Library}
-use Rattle.dsn_library.specs.declared.network.Network.{Network}
-
--- ---- the library
 
 -- the shapes of a padstack are within the limits, on so many layers
 abbrev pub IsFitStack : ℕ → Padstack → Type 0
@@ -35,15 +30,3 @@ pub record IsFitLibrary (layers : ℕ) (l : Library) : Type 0 where
   pub shapes : AllByRecursion (IsFitStack layers) l.stacks
   pub image_names : length l.image_names ≡ length l.images
   pub images : AllByRecursion (IsFitImage layers (length l.stacks)) l.images
-
--- no padstack has more shapes
-abbrev pub HaveAtMost : ℕ → List Padstack → Type 0
-HaveAtMost most stacks = AllByRecursion (λ (p : Padstack). length p.shapes ≤ most) stacks
-
--- ---- the network
-
--- at most 100,000 nets; those of pins are among them; what the rules of the classes state is within the limits
-pub record IsFitNetwork (n : Network) : Type 0 where
-  pub few : length n.nets ≤ 100000
-  pub pins : AllByRecursion (λ (p : (ℕ × ℕ) × ℕ). p.1 < length n.nets) n.pins
-  pub rules : AllByRecursion (λ (c : Class). IsFitRule c.rule) n.classes

@@ -14,7 +14,7 @@ use Rattle.dsn_lists.specs.ShortLists.{HasWord, NoWordOr}
 use Rattle.dsn_library.specs.declared.stacks.StackWord.{StackWord}
 use Rattle.dsn_library.specs.declared.stacks.StackWord.TheVariants as stacks
 use Rattle.dsn_library.specs.Libraries.{stack_word}
-use Rattle.dsn_library.specs.NewNames.{IsNewName, OldNameFault}
+use Rattle.dsn_lists.specs.NewNames.{IsNewName, OldNameFault}
 use Rattle.dsn_shapes.specs.DrawnLists.{IsShapeList, ShapeListFault}
 
 -- ---- the lists of a padstack

@@ -4,14 +4,14 @@ ghost use Rattle.sexp_text.specs.Shows.{forest};
 ghost use Rattle.dsn_lists.specs.Results.{Tells, Gives, each};
 ghost use Rattle.dsn_lists.specs.Names.{is_among, place_of};
 ghost use Rattle.dsn_lists.specs.Words.{marked};
-ghost use Rattle.dsn_library.specs.Images.{angle_word, rotate_of, rotate_item, rotation, pin_trail_item, stack_number, pin_words, pin_of, with_name, number_with, with_pin_of, with_keep, image_keep_word, image_word, image_item, new_image, no_image, image_of};
+ghost use Rattle.dsn_library.specs.Images.{angle_word, rotate_of, rotate_item, rotation, pin_trail_item, stack_number, pin_words, pin_of, with_name, number_with, with_pin_of, with_keep, image_keep_word, image_word, image_item, no_image, image_of};
 
 use crate::images::{Image, ImagePart};
 use area_geometry::Shapes;
 use board_items::KeepKind;
 use dsn_lists::{
-    DesignFault, DesignKind, Found, NameSet, ReadWhy, fault, is_word, opening, point_at, read_over,
-    unit_at, unit_for, word_at,
+    DesignFault, DesignKind, Found, NameSet, ReadWhy, check_fresh, fault, is_word, next_list,
+    opening, point_at, read_over, unit_at, unit_for, word_at,
 };
 use dsn_shapes::{keep_at, keep_kind};
 use row_lists::Row;
@@ -113,20 +113,11 @@ fn read_pin_lists(list: Cursor<'_>) -> Result<(), DesignFault>
     ensures { Tells (λ x. x) result (each pin_trail_item tt (forest list.entry)) }
 {
     let mut rest = list;
-    'lists: loop {
-        match front(rest) {
-            Part::End => return Ok(()),
-            Part::Word { at, .. } => return Err(fault(DesignKind::Form, at)),
-            Part::List {
-                at,
-                inside,
-                rest: after,
-            } => {
-                read_pin_list(at, inside)?;
-                rest = after;
-            }
-        }
+    'lists: while let Some((at, inside, after)) = next_list(rest)? {
+        read_pin_list(at, inside)?;
+        rest = after;
     }
+    Ok(())
 }
 
 fn stack_at(stacks: &NameSet, word: Found<'_>) -> Result<usize, DesignFault>
@@ -259,29 +250,9 @@ fn read_lists(
     ensures { Gives (λ _. image.new) result (each (image_item unit layers.now stacks.now) image.old (forest list.entry)) }
 {
     let mut rest = list;
-    'lists: loop {
-        match front(rest) {
-            Part::End => return Ok(()),
-            Part::Word { at, .. } => return Err(ReadWhy::from(fault(DesignKind::Form, at))),
-            Part::List {
-                at,
-                inside,
-                rest: after,
-            } => {
-                read_list(alloc, unit, layers, stacks, image, at, inside)?;
-                rest = after;
-            }
-        }
-    }
-}
-
-#[tactic(auto, unfolding(crate::specs::Images::new_image))]
-fn check_name(images: &NameSet, word: Found<'_>) -> Result<(), DesignFault>
-    ensures told { Tells (λ x. x) result (new_image images.now (marked word.entry)) }
-    ensures fresh { OnOk result (is_among word.entry.text.now images.now ≡ false) }
-{
-    if images.contains(word.text) {
-        return Err(fault(DesignKind::Twice, word.at));
+    'lists: while let Some((at, inside, after)) = next_list(rest)? {
+        read_list(alloc, unit, layers, stacks, image, at, inside)?;
+        rest = after;
     }
     Ok(())
 }
@@ -302,7 +273,7 @@ pub fn image_at<'a>(
     ensures fresh { IfOk result (λ x. is_among x.0.now images.now ≡ false) }
 {
     let (word, rest) = word_at(at, args)?;
-    check_name(images, word)?;
+    check_fresh(images, word)?;
     let mut image = Image {
         ids: NameSet::new(alloc),
         parts: Row::new(alloc),

@@ -15,13 +15,13 @@ use crate::images::{Image, Images};
 use crate::stacks::stack_at;
 use board_items::{Padstack, Stacks};
 use dsn_lists::{
-    DesignFault, DesignKind, NameSet, Place, ReadWhy, Section, fault, is_word, opening, section_of,
-    title_of, unit_at, unit_for,
+    DesignFault, DesignKind, NameSet, Place, ReadWhy, Section, is_word, next_list, opening,
+    refused, section_of, title_of, unit_at, unit_for,
 };
 use dsn_shapes::names_ahead;
 use dsn_structure::Structure;
 use row_lists::Row;
-use sexp_text::{Cursor, Part, Tree, Unit, front};
+use sexp_text::{Cursor, Tree, Unit};
 use std::alloc::{AllocError, Global};
 
 /// The library of a design.
@@ -109,7 +109,7 @@ fn read_list(
             unit_at(at, head.args)?;
             Ok(())
         }
-        LibraryWord::Resolution => Err(ReadWhy::from(fault(DesignKind::Unit, head.at))),
+        LibraryWord::Resolution => Err(refused(DesignKind::Unit, head.at)),
         LibraryWord::Other => Ok(()),
     }
 }
@@ -126,20 +126,11 @@ fn read_lists(
     ensures { Gives (λ _. library.new) result (each (library_item unit layers.now stacks.now) library.old (forest list.entry)) }
 {
     let mut rest = list;
-    'lists: loop {
-        match front(rest) {
-            Part::End => return Ok(()),
-            Part::Word { at, .. } => return Err(ReadWhy::from(fault(DesignKind::Form, at))),
-            Part::List {
-                at,
-                inside,
-                rest: after,
-            } => {
-                read_list(alloc, unit, layers, stacks, library, at, inside)?;
-                rest = after;
-            }
-        }
+    'lists: while let Some((at, inside, after)) = next_list(rest)? {
+        read_list(alloc, unit, layers, stacks, library, at, inside)?;
+        rest = after;
     }
+    Ok(())
 }
 
 fn empty_library(alloc: Global) -> Library

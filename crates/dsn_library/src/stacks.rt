@@ -1,23 +1,20 @@
 //! The padstacks of a library.
-ghost use Rattle.std.specs.Prelude.{◌≡◌, false, IfOk, OnOk};
+ghost use Rattle.std.specs.Prelude.{◌≡◌, false, IfOk};
 ghost use Rattle.sexp_text.specs.Shows.{forest};
 ghost use Rattle.dsn_lists.specs.Results.{Tells, Gives, each};
 ghost use Rattle.dsn_lists.specs.Names.{is_among};
-ghost use Rattle.dsn_lists.specs.Words.{marked};
-ghost use Rattle.dsn_library.specs.Libraries.{not_first, stack_word, nothing_drawn, stack_item, new_stack, as_stack, stack_of};
+ghost use Rattle.dsn_library.specs.Libraries.{not_first, stack_word, nothing_drawn, stack_item, as_stack, stack_of};
 
 use area_geometry::Shapes;
 use board_items::Padstack;
 use dsn_lists::{
-    DesignFault, DesignKind, Found, NameSet, ReadWhy, fault, is_word, opening, word_at,
+    DesignFault, DesignKind, NameSet, ReadWhy, check_new, fault, is_word, next_list, opening,
+    refused, word_at,
 };
 use dsn_shapes::add_shapes;
-use row_lists::Row;
+use row_lists::{PADSTACK_LIMIT, Row};
 use sexp_text::{Cursor, Part, Unit, front};
 use std::alloc::Global;
-
-/// How many padstacks a design may have.
-const STACKS: usize = 65_535;
 
 // The shapes of a padstack, and whether a list stated shapes.
 #[derive(Drop)]
@@ -89,7 +86,7 @@ fn read_list(
             drawn.drawn = true;
             Ok(())
         }
-        StackWord::Window => Err(ReadWhy::from(fault(DesignKind::Window, head.at))),
+        StackWord::Window => Err(refused(DesignKind::Window, head.at)),
         StackWord::Rotate => Ok(refuse_first(b"off", head.args)?),
         StackWord::Absolute => Ok(refuse_first(b"on", head.args)?),
         StackWord::Other => Ok(()),
@@ -110,34 +107,11 @@ fn read_lists(
         drawn: false,
     };
     let mut rest = list;
-    'lists: loop {
-        match front(rest) {
-            Part::End => return Ok(drawn),
-            Part::Word { at, .. } => return Err(ReadWhy::from(fault(DesignKind::Form, at))),
-            Part::List {
-                at,
-                inside,
-                rest: after,
-            } => {
-                read_list(alloc, unit, layers, &mut drawn, at, inside)?;
-                rest = after;
-            }
-        }
+    'lists: while let Some((at, inside, after)) = next_list(rest)? {
+        read_list(alloc, unit, layers, &mut drawn, at, inside)?;
+        rest = after;
     }
-}
-
-#[tactic(auto, unfolding(crate::specs::Libraries::new_stack))]
-fn check_name(names: &NameSet, word: Found<'_>) -> Result<(), DesignFault>
-    ensures told { Tells (λ x. x) result (new_stack names.now (marked word.entry)) }
-    ensures fresh { OnOk result (is_among word.entry.text.now names.now ≡ false) }
-{
-    if names.contains(word.text) {
-        return Err(fault(DesignKind::Twice, word.at));
-    }
-    if names.len() >= STACKS {
-        return Err(fault(DesignKind::Large, word.at));
-    }
-    Ok(())
+    Ok(drawn)
 }
 
 #[tactic(auto, unfolding(crate::specs::Libraries::as_stack))]
@@ -146,7 +120,7 @@ fn whole_stack(alloc: Global, at: u32, name: &[u8], drawn: Drawn) -> Result<Pads
     ensures name { IfOk result (λ p. p.name ≡ name.now) }
 {
     if !drawn.drawn {
-        return Err(ReadWhy::from(fault(DesignKind::Form, at)));
+        return Err(refused(DesignKind::Form, at));
     }
     Ok(Padstack {
         name: Row::from_slice(alloc, name)?,
@@ -168,7 +142,7 @@ pub fn stack_at(
     ensures fresh { IfOk result (λ p. is_among p.name names.now ≡ false) }
 {
     let (word, rest) = word_at(at, args)?;
-    check_name(names, word)?;
+    check_new(names, PADSTACK_LIMIT, word)?;
     let drawn = read_lists(alloc, unit, layers, rest)?;
     whole_stack(alloc, at, word.text, drawn)
 }

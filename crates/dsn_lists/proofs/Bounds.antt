@@ -33,7 +33,8 @@ use Rattle.dsn_lists.specs.Numbers.{length_told, length_word, as_width, width_wo
 use Rattle.dsn_lists.specs.Places.{point, put, with_one, no_coordinates, coordinates}
 use Rattle.dsn_lists.specs.Shapes.{trail, as_path, path_of, point_of, centre_of, circle_of}
 use Rattle.dsn_lists.specs.Rules.{what_of, stating, stated_for, type_list, clearance_item, untyped_unless, clearance_list, width_list, rule_word, rule_list, rule_item, rule_of, no_rule}
-use Rattle.dsn_lists.specs.Limits.{AreInRange, IsFitPath, IsFitCircle, AreFitStated, IsFitRule}
+use Rattle.dsn_lists.specs.Limits.{AreFitStated, IsFitRule}
+use Rattle.dsn_lists.proofs.Ranges.{AreInRange, IsFitPath, IsFitCircle}
 
 -- ---- readings that give a value
 

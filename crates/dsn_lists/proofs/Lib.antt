@@ -29,3 +29,7 @@ pub mod PathLaws
 pub mod CentreLaws
 pub mod CircleLaws
 pub mod JoinLaws
+pub mod NewNameLaws
+pub mod Ranges
+pub mod Growing
+pub mod Whole

@@ -31,7 +31,7 @@ abbrev width_rest : LengthUnit → ℕ → Forest → ℕ → Read Path
 width_rest u at rest width = coordinates u no_coordinates rest >>= λ c. points_rest at width c
 
 -- what is read of coordinates
-read_is : (u : LengthUnit) (f : Forest) → all_read u no_coordinates f ≡ (stated u (first_words f), behind_words f)
+pub read_is : (u : LengthUnit) (f : Forest) → all_read u no_coordinates f ≡ (stated u (first_words f), behind_words f)
 read_is u f = ap (λ (c : Coordinates). (c, behind_words f)) (put_is u (first_words f) [])
 
 rest_found : (u : LengthUnit) (at width : ℕ) (rest : Forest) (p : Path) → width_rest u at rest width ≡ Ok p

@@ -18,3 +18,5 @@ pub mod Titles
 pub mod PointWords
 pub mod TrailLists
 pub mod ShapeLists
+pub mod NewNames
+pub mod NextLists

@@ -101,6 +101,13 @@ pub fn fault(kind: DesignKind, at: u32) -> DesignFault
     DesignFault { kind, at }
 }
 
+/// Why a design was not read that has a fault of this kind at this byte.
+pub fn refused(kind: DesignKind, at: u32) -> ReadWhy
+    ensures { result ≡ Fault (record { kind = kind; at = at }) }
+{
+    ReadWhy::Fault(fault(kind, at))
+}
+
 impl From<DesignFault> for ReadWhy {
     ghost from_gives = { λ e why. why ≡ Fault e };
 

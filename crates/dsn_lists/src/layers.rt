@@ -8,8 +8,9 @@ use crate::faults::{DesignFault, DesignKind, fault};
 use crate::names::NameSet;
 use crate::words::{Found, is_word};
 
+/// Whether a word stands for every layer.
 #[tactic(auto, unfolding(crate::specs::Layers::is_every))]
-fn stands_for_all(text: &[u8]) -> bool
+pub fn stands_for_all(text: &[u8]) -> bool
     ensures { result ≡ is_every text.now }
 {
     is_word(text, b"signal") || is_word(text, b"pcb")

@@ -10,9 +10,9 @@ ghost use Rattle.dsn_lists.specs.Results.{Tells, Gives, each};
 ghost use Rattle.dsn_lists.specs.Words.{marked};
 ghost use Rattle.dsn_lists.specs.Pcbs.{are_digits, is_whole, resolution_list, section_name, has, with, section_word, pcb_word, pcb_item, no_frame, complete, nothing, pcb_keyword, inside_of, design_of, spotted, list_named, section_in};
 
-use crate::faults::{DesignFault, DesignKind, ReadWhy, fault};
+use crate::faults::{DesignFault, DesignKind, ReadWhy, fault, refused};
 use crate::units::{unit_at, unit_in};
-use crate::words::{Found, is_word, opening, read_over, word_at};
+use crate::words::{Found, is_word, next_list, opening, read_over, word_at};
 use layout_io::Name;
 use row_lists::Row;
 use sexp_text::{Cursor, Part, Tree, Unit, front};
@@ -205,20 +205,11 @@ fn read_lists(frame: Frame, list: Cursor<'_>) -> Result<Frame, DesignFault>
 {
     let mut frame = frame;
     let mut rest = list;
-    'lists: loop {
-        match front(rest) {
-            Part::End => return Ok(frame),
-            Part::Word { at, .. } => return Err(fault(DesignKind::Form, at)),
-            Part::List {
-                at,
-                inside,
-                rest: after,
-            } => {
-                frame = read_list(frame, at, inside)?;
-                rest = after;
-            }
-        }
+    'lists: while let Some((at, inside, after)) = next_list(rest)? {
+        frame = read_list(frame, at, inside)?;
+        rest = after;
     }
+    Ok(frame)
 }
 
 // The unit of a design that has a structure.
@@ -300,8 +291,8 @@ fn read_title(alloc: Global, tree: &Tree) -> Result<Title, ReadWhy>
     ensures { Gives (λ x. x) result (design_of (tree_forest tree.now)) }
 {
     match front(tree.all()) {
-        Part::End => Err(ReadWhy::from(fault(DesignKind::Form, 0))),
-        Part::Word { at, .. } => Err(ReadWhy::from(fault(DesignKind::Form, at))),
+        Part::End => Err(refused(DesignKind::Form, 0)),
+        Part::Word { at, .. } => Err(refused(DesignKind::Form, at)),
         Part::List { at, inside, rest } => {
             let title = title_at(alloc, at, inside)?;
             end_of_text(rest)?;

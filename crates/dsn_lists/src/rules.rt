@@ -7,9 +7,9 @@ ghost use Rattle.dsn_lists.specs.Results.{Tells, Gives, each};
 ghost use Rattle.dsn_lists.specs.Words.{marked};
 ghost use Rattle.dsn_lists.specs.Rules.{kind_of, what_of, kinds_at, stating, stated_for, type_list, clearance_item, untyped_unless, clearance_list, width_list, rule_word, rule_item, rule_of};
 
-use crate::faults::{DesignFault, DesignKind, ReadWhy, fault};
+use crate::faults::{DesignFault, ReadWhy};
 use crate::lengths::width_at;
-use crate::words::{is_word, opening, read_over, word_at};
+use crate::words::{is_word, next_list, opening, read_over, word_at};
 use board_rules::{Kind, Stated, StatedRows, What};
 use sexp_text::{Cursor, Part, Unit, front};
 use std::alloc::AllocError;
@@ -159,20 +159,11 @@ fn read_clearance_lists(typed: &mut Typed, value: u32, list: Cursor<'_>) -> Resu
     ensures { Gives (λ _. typed.new) result (each (clearance_item value) typed.old (forest list.entry)) }
 {
     let mut rest = list;
-    'lists: loop {
-        match front(rest) {
-            Part::End => return Ok(()),
-            Part::Word { at, .. } => return Err(ReadWhy::from(fault(DesignKind::Form, at))),
-            Part::List {
-                at,
-                inside,
-                rest: after,
-            } => {
-                read_clearance_list(typed, value, at, inside)?;
-                rest = after;
-            }
-        }
+    'lists: while let Some((at, inside, after)) = next_list(rest)? {
+        read_clearance_list(typed, value, at, inside)?;
+        rest = after;
     }
+    Ok(())
 }
 
 // A clearance without a type is stated for all that has none.
@@ -262,18 +253,9 @@ pub fn read_rule(unit: Unit, rule: Rule, list: Cursor<'_>) -> Result<Rule, ReadW
 {
     let mut rule = rule;
     let mut rest = list;
-    'lists: loop {
-        match front(rest) {
-            Part::End => return Ok(rule),
-            Part::Word { at, .. } => return Err(ReadWhy::from(fault(DesignKind::Form, at))),
-            Part::List {
-                at,
-                inside,
-                rest: after,
-            } => {
-                rule = read_rule_list(unit, rule, at, inside)?;
-                rest = after;
-            }
-        }
+    'lists: while let Some((at, inside, after)) = next_list(rest)? {
+        rule = read_rule_list(unit, rule, at, inside)?;
+        rest = after;
     }
+    Ok(rule)
 }

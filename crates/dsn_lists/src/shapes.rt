@@ -8,7 +8,7 @@ ghost use Rattle.dsn_lists.specs.Shapes.{trail_word, aperture, trail_item, trail
 use crate::faults::{DesignFault, DesignKind, ReadWhy, fault};
 use crate::lengths::{length_at, width_at};
 use crate::places::{Coordinates, coordinates_at};
-use crate::words::{Found, is_word, opening, read_over, word_at};
+use crate::words::{Found, is_word, next_list, opening, read_over, word_at};
 use seg_geometry::{Points, Pt};
 use sexp_text::{Cursor, Part, Unit, front};
 use std::alloc::Global;
@@ -77,20 +77,11 @@ pub fn read_trail(list: Cursor<'_>) -> Result<(), DesignFault>
     ensures { Tells (λ x. x) result (trail (forest list.entry)) }
 {
     let mut rest = list;
-    'lists: loop {
-        match front(rest) {
-            Part::End => return Ok(()),
-            Part::Word { at, .. } => return Err(fault(DesignKind::Form, at)),
-            Part::List {
-                at,
-                inside,
-                rest: after,
-            } => {
-                read_trail_list(at, inside)?;
-                rest = after;
-            }
-        }
+    'lists: while let Some((at, inside, after)) = next_list(rest)? {
+        read_trail_list(at, inside)?;
+        rest = after;
     }
+    Ok(())
 }
 
 #[tactic(auto, unfolding(crate::specs::Shapes::as_path))]

@@ -1,7 +1,8 @@
 //! The words of a list, and what a list is by its first word.
-ghost use Rattle.std.specs.Prelude.{◌≡◌, ◌++◌, ◌∷◌, [], OnOk, IfOk};
+ghost use Rattle.std.specs.Prelude.{◌≡◌, ◌++◌, ◌∷◌, [], length, OnOk, IfOk};
 ghost use Rattle.sexp_text.specs.Shows.{forest};
 ghost use Rattle.dsn_lists.specs.Results.{Tells, Gives, each};
+ghost use Rattle.dsn_lists.specs.NextLists.{IsNextList, IsShorter};
 ghost use Rattle.dsn_lists.specs.Words.{same, mark, marked, heading, head_of, word_of, spare_list, spare, one_word, names, name_list};
 
 use crate::faults::{DesignFault, DesignKind, ReadWhy, fault};
@@ -65,19 +66,28 @@ pub fn word_at(at: u32, list: Cursor<'_>) -> Result<(Found<'_>, Cursor<'_>), Des
     }
 }
 
+/// The list at the front with its byte, and what follows it; none at the end. A word there is the fault `Form`.
+pub fn next_list(list: Cursor<'_>) -> Result<Option<(u32, Cursor<'_>, Cursor<'_>)>, DesignFault>
+    ensures is { IsNextList (forest list.entry) result }
+    ensures less { IsShorter (length list.entry.entries.now) result }
+{
+    match front(list) {
+        Part::End => Ok(None),
+        Part::Word { at, .. } => Err(fault(DesignKind::Form, at)),
+        Part::List { at, inside, rest } => Ok(Some((at, inside, rest))),
+    }
+}
+
 /// Reads lists over; a word is the fault `Form`.
 #[tactic(auto, unfolding(crate::specs::Results::each))]
 pub fn read_over(list: Cursor<'_>) -> Result<(), DesignFault>
     ensures { Tells (λ x. x) result (spare (forest list.entry)) }
 {
     let mut rest = list;
-    'lists: loop {
-        match front(rest) {
-            Part::End => return Ok(()),
-            Part::Word { at, .. } => return Err(fault(DesignKind::Form, at)),
-            Part::List { rest: after, .. } => rest = after,
-        }
+    'lists: while let Some((_, _, after)) = next_list(rest)? {
+        rest = after;
     }
+    Ok(())
 }
 
 /// The word of a list that holds one and begins at this byte.

@@ -22,13 +22,13 @@ use Rattle.dsn_reader.specs.declared.wiring.WiringWord.{WiringWord}
 use Rattle.dsn_reader.specs.declared.wiring.WiringWord.TheVariants as words
 use Rattle.dsn_reader.specs.Wirings.{Netted, netted, wiring_list, is_fixed}
 use Rattle.dsn_reader.specs.EndLists.{with_names}
-use Rattle.dsn_shapes.specs.RoomLists.{points_of_shapes}
+use Rattle.dsn_shapes.specs.QuotaLists.{points_of_shapes}
 use Rattle.dsn_reader.specs.ViaLists.{AreVias}
 use Rattle.dsn_reader.specs.Meaning.{IsOfWiring, used_by_list, points_of_item, OfWiringFault}
-use Rattle.dsn_reader.proofs.NetLaws.{Grows}
-use Rattle.dsn_reader.proofs.RoomLaws.{IsPut}
+use Rattle.dsn_lists.proofs.Growing.{Grows}
+use Rattle.dsn_reader.proofs.QuotaLaws.{IsPut}
 use Rattle.dsn_reader.proofs.WireLaws.{wire_found, wire_again, wire_fault, wire_fault_again}
-use Rattle.dsn_reader.proofs.ViaLaws.{times, same_room}
+use Rattle.dsn_reader.proofs.ViaLaws.{times, same_quota}
 use Rattle.dsn_reader.proofs.ViaListLaws.{IsViaStep, names_behind, via_list_found, via_list_again, via_list_fault, via_list_fault_again}
 
 -- ---- points of items
@@ -54,8 +54,8 @@ pub record IsAdded (u : LengthUnit) (layers : List (List ℕ)) (l : Library) (fi
   pub few_nets : length y.nets ≤ 100000
   pub is : IsOfWiring u layers l final k f more
   pub items : y.it.items ≡ x.it.items ++ more
-  pub count : x.it.room.items ≡ length more + y.it.room.items
-  pub points : x.it.room.points ≡ points_in l.stacks more + y.it.room.points
+  pub count : x.it.quota.items ≡ length more + y.it.quota.items
+  pub points : x.it.quota.points ≡ points_in l.stacks more + y.it.quota.points
 
 none_added : (u : LengthUnit) (layers : List (List ℕ)) (l : Library) (x : Netted Wiring) (k : WiringWord) (f : Forest) → used_by_list k f ≡ [] → IsOfWiring u layers l x.nets k f [] → length x.nets ≤ 100000
     → IsAdded u layers l x.nets x k f [] x
@@ -81,9 +81,9 @@ via_step u layers l x (Word a text rest) y h =
       record {
         nets = p.nets ∙ ap (λ (names : List (List ℕ)). with_names x.nets names) (sym (names_behind rest));
         few_nets = p.few;
-        is = (h.0, h.1, record { points = p.points; net = p.net; fix = p.fix; pairs = p.pairs; ends = p.ends; near = p.put.near; are = refl });
+        is = (h.0, h.1, record { points = p.points; net = p.net; fix = p.fix; pairs = p.pairs; some = p.some; ends = p.ends; near = p.put.near; are = refl });
         items = p.put.items;
-        count = p.put.count ∙ ap (λ (n : ℕ). n + y.it.room.items) (sym (length-map p.points (λ q. items.Via p.net h.0 q fixed)));
+        count = p.put.count ∙ ap (λ (n : ℕ). n + y.it.quota.items) (sym (length-map p.points (λ q. items.Via p.net h.0 q fixed)));
         points = omega (arith, sum, points);
       },
     )
@@ -95,8 +95,8 @@ added_found u layers l x at h words.Wire y few e =
     let i = items.Wire w.1 w.0.layer w.0.width w.0.points (is_fixed w.2) in
     let put = w.3.put in
     let sum = one_item l.stacks i in
-    let count = put.room.items in
-    let points = put.room.points in (
+    let count = put.quota.items in
+    let points = put.quota.points in (
       i ∷ [],
       record { nets = w.3.nets; few_nets = w.3.few; is = (i, w.3.wire, refl); items = put.items; count = omega (arith, count); points = omega (arith, sum, points) },
     )
@@ -107,21 +107,21 @@ added_found u layers l x at h words.Unit y few e =
 added_found u layers l x at h words.Resolution y few e = absurd cc
 added_found u layers l x at h words.Other y few e = ([], subst (λ (z : Netted Wiring). IsAdded u layers l z.nets x words.Other h.args [] z) (ok_is x y e) (none_added u layers l x words.Other h.args refl refl few))
 
-pub same_wiring : (x y : Netted Wiring) → y.nets ≡ x.nets → y.it.items ≡ x.it.items ++ [] → x.it.room.items ≡ 0 + y.it.room.items → x.it.room.points ≡ 0 + y.it.room.points → x ≡ y
+pub same_wiring : (x y : Netted Wiring) → y.nets ≡ x.nets → y.it.items ≡ x.it.items ++ [] → x.it.quota.items ≡ 0 + y.it.quota.items → x.it.quota.points ≡ 0 + y.it.quota.points → x ≡ y
 same_wiring x y nets all count points =
-    ap (λ (xs : List (List ℕ)). netted xs x.it) (sym nets) ∙ ap (λ (w : Wiring). netted y.nets w) (same_room x.it y.it (all ∙ append-nil x.it.items) (omega (arith, count)) (omega (arith, points)))
+    ap (λ (xs : List (List ℕ)). netted xs x.it) (sym nets) ∙ ap (λ (w : Wiring). netted y.nets w) (same_quota x.it y.it (all ∙ append-nil x.it.items) (omega (arith, count)) (omega (arith, points)))
 
 nothing_added : (u : LengthUnit) (layers : List (List ℕ)) (l : Library) (final : List (List ℕ)) (x : Netted Wiring) (k : WiringWord) (f : Forest) (more : List Item) (y : Netted Wiring) → used_by_list k f ≡ [] → more ≡ [] → IsAdded u layers l final x k f more y → x ≡ y
 nothing_added u layers l final x k f more y none empty a =
-    same_wiring x y (a.nets ∙ ap (λ (names : List (List ℕ)). with_names x.nets names) none) (a.items ∙ ap (λ (is : List Item). x.it.items ++ is) empty) (a.count ∙ ap (λ (is : List Item). length is + y.it.room.items) empty) (a.points ∙ ap (λ (is : List Item). points_in l.stacks is + y.it.room.points) empty)
+    same_wiring x y (a.nets ∙ ap (λ (names : List (List ℕ)). with_names x.nets names) none) (a.items ∙ ap (λ (is : List Item). x.it.items ++ is) empty) (a.count ∙ ap (λ (is : List Item). length is + y.it.quota.items) empty) (a.points ∙ ap (λ (is : List Item). points_in l.stacks is + y.it.quota.points) empty)
 
 wire_put : (u : LengthUnit) (layers : List (List ℕ)) (l : Library) (final : List (List ℕ)) (x : Netted Wiring) (f : Forest) (more : List Item) (y : Netted Wiring) (i : Item) → more ≡ i ∷ [] → IsAdded u layers l final x words.Wire f more y → IsPut x.it i (points_of_item l.stacks i) y.it
 wire_put u layers l final x f more y i one a =
     let sum = one_item l.stacks i in
     let all : y.it.items ≡ x.it.items ++ i ∷ [] = a.items ∙ ap (λ (is : List Item). x.it.items ++ is) one in
-    let count : x.it.room.items ≡ length (i ∷ []) + y.it.room.items = a.count ∙ ap (λ (is : List Item). length is + y.it.room.items) one in
-    let points : x.it.room.points ≡ points_in l.stacks (i ∷ []) + y.it.room.points = a.points ∙ ap (λ (is : List Item). points_in l.stacks is + y.it.room.points) one in
-    record { items = all; room = record { items = omega (arith, count); points = omega (arith, points, sum) } }
+    let count : x.it.quota.items ≡ length (i ∷ []) + y.it.quota.items = a.count ∙ ap (λ (is : List Item). length is + y.it.quota.items) one in
+    let points : x.it.quota.points ≡ points_in l.stacks (i ∷ []) + y.it.quota.points = a.points ∙ ap (λ (is : List Item). points_in l.stacks is + y.it.quota.points) one in
+    record { items = all; quota = record { items = omega (arith, count); points = omega (arith, points, sum) } }
 
 vias_step : (u : LengthUnit) (layers : List (List ℕ)) (l : Library) (final : List (List ℕ)) (x : Netted Wiring) (f : Forest) (more : List Item) (y : Netted Wiring) → AreVias u l final f more → IsAdded u layers l final x words.Via f more y → IsViaStep u l final x f y
 vias_step u layers l final x End more y h a = absurd h
@@ -131,8 +131,8 @@ vias_step u layers l final x (Word b text rest) more y h a =
     let fixed = is_fixed v.fix in
     let vias = map (λ q. items.Via v.net h.0 q fixed) v.points in
     let sum = vias_sum l.stacks v.net h.0 (points_of_shapes (shapes_of (slice_get l.stacks h.0))) fixed v.points refl in
-    let count : x.it.room.items ≡ length vias + y.it.room.items = a.count ∙ ap (λ (is : List Item). length is + y.it.room.items) v.are in
-    let points : x.it.room.points ≡ points_in l.stacks vias + y.it.room.points = a.points ∙ ap (λ (is : List Item). points_in l.stacks is + y.it.room.points) v.are in (
+    let count : x.it.quota.items ≡ length vias + y.it.quota.items = a.count ∙ ap (λ (is : List Item). length is + y.it.quota.items) v.are in
+    let points : x.it.quota.points ≡ points_in l.stacks vias + y.it.quota.points = a.points ∙ ap (λ (is : List Item). points_in l.stacks is + y.it.quota.points) v.are in (
       h.0,
       h.1,
       record {
@@ -140,10 +140,11 @@ vias_step u layers l final x (Word b text rest) more y h a =
         net = v.net;
         fix = v.fix;
         pairs = v.pairs;
+        some = v.some;
         nets = a.nets ∙ ap (λ (names : List (List ℕ)). with_names x.nets names) (names_behind rest);
         few = a.few_nets;
         ends = v.ends;
-        put = record { near = v.near; items = a.items ∙ ap (λ (is : List Item). x.it.items ++ is) v.are; count = count ∙ ap (λ (n : ℕ). n + y.it.room.items) (length-map v.points (λ q. items.Via v.net h.0 q fixed)); points = omega (arith, sum, points) };
+        put = record { near = v.near; items = a.items ∙ ap (λ (is : List Item). x.it.items ++ is) v.are; count = count ∙ ap (λ (n : ℕ). n + y.it.quota.items) (length-map v.points (λ q. items.Via v.net h.0 q fixed)); points = omega (arith, sum, points) };
       },
     )
 

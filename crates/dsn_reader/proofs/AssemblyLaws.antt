@@ -1,6 +1,6 @@
 -- The classes and nets of a design are those that are assembled.
 use Rattle.std.proofs.Common.{◌≡◌, ℕ, zero, suc, ◌-◌, List, [], ◌∷◌, ◌++◌, map, length, Option, Some, None, option_to_list, refl, sym, ap, ◌∙◌, append_assoc, arith}
-use Rattle.std.specs.Prelude.{slice_get}
+use Rattle.std.specs.Prelude.{slice_get, Result, Ok, Err, IfOk}
 use Rattle.std.specs.Option.{option_map}
 use Rattle.std.proofs.lemmas.List.{append-nil}
 use Rattle.board_items.specs.declared.items.Item.{Item}
@@ -12,9 +12,10 @@ use Rattle.dsn_lists.specs.declared.rules.Rule.{Rule}
 use Rattle.dsn_lists.specs.Names.{place_of}
 use Rattle.dsn_lists.specs.Lists.{last_of}
 use Rattle.dsn_structure.specs.declared.structure.Structure.{Structure}
-use Rattle.dsn_library.specs.declared.classes.Class.{Class}
-use Rattle.dsn_library.specs.declared.placement.Placed.{Placed}
-use Rattle.dsn_reader.specs.Assembly.{with_number, numbers_of, held_vias, last_vias, class_row, class_rows, all_classes, net_row, row_at, net_rows, item_of, with_placed, with_items, Gathered, rows_of, with_rows, assembled}
+use Rattle.dsn_network.specs.declared.classes.Class.{Class}
+use Rattle.dsn_placement.specs.declared.placement.PlacedPart.{PlacedPart}
+use Rattle.dsn_reader.specs.declared.reader.Laid.{Laid}
+use Rattle.dsn_reader.specs.Assembly.{with_number, numbers_of, held_vias, last_vias, class_row, class_rows, all_classes, net_row, row_at, net_rows, item_of, with_placed, Gathered, rows_of, with_rows, assembled}
 use Rattle.dsn_reader.specs.Rows.{numbers_by_place, row_of, row_of_class, rows_of_classes, rows_of_nets, laid_out}
 
 -- ---- classes
@@ -89,33 +90,30 @@ nets_are (name ∷ names) (c ∷ cs) = nets_more (length names) name names c cs 
 -- ---- items
 
 -- the pads and keepouts are put one by one
-pub placed_are : (pins : List ((ℕ × ℕ) × ℕ)) (is : List Item) (xs : List Placed) → with_placed pins is xs ≡ is ++ map (item_of pins) xs
+pub placed_are : (pins : List ((ℕ × ℕ) × ℕ)) (is : List Item) (xs : List PlacedPart) → with_placed pins is xs ≡ is ++ map (item_of pins) xs
 unfolding with_placed
 placed_are pins is [] = sym (append-nil is)
 placed_are pins is (x ∷ xs) = placed_are pins (is ++ item_of pins x ∷ []) xs ∙ append_assoc is (item_of pins x ∷ []) (map (item_of pins) xs)
 
--- items are put one by one
-pub items_are : (is xs : List Item) → with_items is xs ≡ is ++ xs
-unfolding with_items
-items_are is [] = sym (append-nil is)
-items_are is (x ∷ xs) = items_are (is ++ x ∷ []) xs ∙ append_assoc is (x ∷ []) xs
-
 -- the items that are put are those of the design
-pub loaded_are : (pins : List ((ℕ × ℕ) × ℕ)) (keeps : List Item) (parts : List Placed) (wiring : List Item) → with_items (with_placed pins (with_items [] keeps) parts) wiring ≡ keeps ++ (map (item_of pins) parts ++ wiring)
+pub loaded_are : (pins : List ((ℕ × ℕ) × ℕ)) (keeps : List Item) (parts : List PlacedPart) (wiring : List Item) → with_placed pins keeps parts ++ wiring ≡ keeps ++ (map (item_of pins) parts ++ wiring)
 loaded_are pins keeps parts wiring =
-    items_are (with_placed pins (with_items [] keeps) parts) wiring
-    ∙ ap (λ (is : List Item). is ++ wiring) (placed_are pins (with_items [] keeps) parts)
-    ∙ ap (λ (is : List Item). (is ++ map (item_of pins) parts) ++ wiring) (items_are [] keeps)
-    ∙ append_assoc keeps (map (item_of pins) parts) wiring
+    ap (λ (is : List Item). is ++ wiring) (placed_are pins keeps parts) ∙ append_assoc keeps (map (item_of pins) parts) wiring
 
 -- ---- the design
 
 abbrev parts_with : Gathered → List NetRow → List ClassRow → List Item → Parts
-parts_with g nets classes is = with_rows g (record { layers = g.structure.layers; nets = nets; classes = classes; items = is })
+parts_with g nets classes is = record { name = g.name; layers = g.structure.layers; stacks = g.library.stacks; nets = nets; classes = classes; outline = g.structure.outline; items = is }
 
 -- the design that is assembled is that of what was stated
 pub assembled_is : (g : Gathered) → assembled g ≡ laid_out g
 assembled_is g =
-    ap (λ (x : List NetRow). parts_with g x (rows_of g).classes (rows_of g).items) (nets_are g.nets g.numbers)
-    ∙ ap (λ (x : List ClassRow). parts_with g (rows_of_nets g.nets g.numbers) x (rows_of g).items) (classes_are g.library.names g.structure g.classes)
+    let is = with_placed g.pins g.structure.keeps g.placement.parts ++ g.wiring.items in
+    ap (λ (x : List NetRow). parts_with g x (rows_of g).classes is) (nets_are g.nets g.numbers)
+    ∙ ap (λ (x : List ClassRow). parts_with g (rows_of_nets g.nets g.numbers) x is) (classes_are g.library.names g.structure g.classes)
     ∙ ap (parts_with g (rows_of_nets g.nets g.numbers) (rows_of_classes g.library.names g.structure g.classes)) (loaded_are g.pins g.structure.keeps g.placement.parts g.wiring.items)
+
+-- what is made of rows that were copied is the design of what was stated
+pub if_assembled : {E : Type 0} (g : Gathered) (x : Laid) (r : Result Parts E) → x ≡ rows_of g → IfOk r (λ (p : Parts). p ≡ with_rows g x) → IfOk r (λ (p : Parts). p ≡ assembled g)
+if_assembled g x (Ok p) e h = h ∙ ap (with_rows g) e
+if_assembled g x (Err w) e h = tt

@@ -13,7 +13,8 @@ use Rattle.dsn_reader.specs.Wirings.{Netted, netted, wire_word, wire_item, no_dr
 use Rattle.dsn_reader.specs.TrackLists.{IsTrack}
 use Rattle.dsn_reader.specs.EndLists.{with_names, nets_in, names_in, types_in, IsNet, IsType}
 use Rattle.dsn_reader.specs.WireLists.{IsWireList, paths_in, IsDraft, HasDraft, OfWireFault, WireListFault}
-use Rattle.dsn_reader.proofs.NetLaws.{Grows, grows_same, grows_then, grows_with, with-append, long_with}
+use Rattle.dsn_lists.proofs.Growing.{Grows, grows_same, grows_then}
+use Rattle.dsn_reader.proofs.NetLaws.{grows_with, with-append, long_with}
 use Rattle.dsn_reader.proofs.OnceLaws.{Behind, behind_stay, behind_none, behind_join, behind_split, behind_map, net_grows}
 use Rattle.dsn_reader.proofs.EndLaws.{firsts_found, firsts_again}
 use Rattle.dsn_reader.proofs.WireListLaws.{IsDraftStep, draft_found, drafts_are, draft_again, draft_fault, draft_fault_again}

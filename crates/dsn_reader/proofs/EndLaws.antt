@@ -10,7 +10,8 @@ use Rattle.dsn_lists.proofs.Firsts.{made, ok_is, bind_ok, first_found, first_aga
 use Rattle.dsn_reader.specs.declared.ends.Ends.{Ends}
 use Rattle.dsn_reader.specs.Wirings.{Netted, netted, end_word, end_item, no_ends}
 use Rattle.dsn_reader.specs.EndLists.{with_names, nets_in, names_in, IsNet, types_in, IsType, AreEnds, HasEnds, OfEndFault, EndsFault}
-use Rattle.dsn_reader.proofs.NetLaws.{Grows, grows_same, grows_then, grows_with, with-append, long_with}
+use Rattle.dsn_lists.proofs.Growing.{Grows, grows_same, grows_then}
+use Rattle.dsn_reader.proofs.NetLaws.{grows_with, with-append, long_with}
 use Rattle.dsn_reader.proofs.OnceLaws.{Behind, behind_stay, behind_none, behind_join, behind_split, behind_map, net_grows}
 use Rattle.dsn_reader.proofs.EndListLaws.{IsStep, step_found, ends_are, netted_is, step_again, step_fault, step_fault_again}
 

@@ -13,7 +13,7 @@ use Rattle.dsn_reader.specs.declared.ends.EndWord.{EndWord}
 use Rattle.dsn_reader.specs.declared.ends.EndWord.TheVariants as ends
 use Rattle.dsn_reader.specs.Wirings.{Netted, netted, type_list, net_list, type_once, end_list}
 use Rattle.dsn_reader.specs.EndLists.{with_names, net_args, first_name, name_of_list, IsNet, type_args, IsType, OfEndFault}
-use Rattle.dsn_reader.proofs.NetLaws.{Grows}
+use Rattle.dsn_lists.proofs.Growing.{Grows}
 use Rattle.dsn_reader.proofs.OnceLaws.{Behind, behind_stay, behind_none, behind_new, behind_one, none_of}
 use Rattle.dsn_reader.proofs.NetListLaws.{net_read, net_found, net_again, net_fault, net_fault_again}
 use Rattle.dsn_reader.proofs.TypeLaws.{type_found, type_again, type_fault, type_fault_again}

@@ -9,7 +9,7 @@ use Rattle.board_rules.specs.Designs.{IsSound}
 use Rattle.dsn_lists.specs.declared.faults.ReadWhy.{ReadWhy}
 use Rattle.dsn_lists.specs.Results.{Gives}
 use Rattle.dsn_reader.specs.Assembly.{parts_of}
-use Rattle.dsn_reader.proofs.SoundParts.{parts_sound, parts_few}
+use Rattle.dsn_reader.proofs.SoundParts.{parts_sound}
 use Rattle.dsn_reader.proofs.TextSizes.{tree_size}
 
 pub sound_if_given : (f : Forest) (r : Result Parts ReadWhy) → size f ≤ 67108864 → Gives (λ (x : Parts). x) r (parts_of f) → IfOk r IsSound
@@ -18,7 +18,3 @@ sound_if_given f (Err why) small e = tt
 
 pub small_tree : (text : List ℕ) (f : Forest) → length text ≤ 67108864 → IsTree text f → size f ≤ 67108864
 small_tree text f short tree = le_trans (tree_size text f tree) short
-
-pub few_if_given : (f : Forest) (r : Result Parts ReadWhy) → Gives (λ (x : Parts). x) r (parts_of f) → IfOk r (λ (x : Parts). length x.items ≤ 200000)
-few_if_given f (Ok x) e = parts_few f x e
-few_if_given f (Err why) e = tt

@@ -9,10 +9,6 @@ pub mod Laws
 pub mod UnknownLaws
 pub mod AssemblyLaws
 pub mod NetLaws
-pub mod LengthLaws
-pub mod PointLaws
-pub mod TrailLaws
-pub mod PathLaws
 pub mod TrackLaws
 pub mod OnceLaws
 pub mod NetListLaws
@@ -21,7 +17,7 @@ pub mod EndListLaws
 pub mod EndLaws
 pub mod WireListLaws
 pub mod DraftLaws
-pub mod RoomLaws
+pub mod QuotaLaws
 pub mod WireLaws
 pub mod NearLaws
 pub mod ViaLaws
@@ -32,3 +28,4 @@ pub mod MoreNetLaws
 pub mod SectionLaws
 pub mod Whole
 pub mod WholeLaws
+pub mod Fronts

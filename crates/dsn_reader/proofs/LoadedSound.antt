@@ -14,21 +14,22 @@ use Rattle.board_items.specs.Shapes.{origin}
 use Rattle.board_items.proofs.Places.{moved_nowhere}
 use Rattle.board_rules.specs.declared.design.Parts.{Parts}
 use Rattle.board_rules.specs.Designs.{IsFitItem}
+use Rattle.board_rules.proofs.Cores.{placed_cores}
 use Rattle.dsn_shapes.specs.Limits.{AreFitDrawn}
-use Rattle.dsn_library.specs.References.{same_pin, net_at}
+use Rattle.dsn_network.specs.References.{same_pin, net_at}
 
 -- ---- shapes
 
 on_layers : (layers : ℕ) (ss : List Shape) → AreFitDrawn layers ss → AllByRecursion (λ (s : Shape). s.layer < layers) ss
 on_layers layers [] h = tt
-on_layers layers (s ∷ ss) h = (h.0.fit.layer, on_layers layers ss h.1)
+on_layers layers (s ∷ ss) h = (h.0.layer, on_layers layers ss h.1)
 
 within_limits : (layers : ℕ) (ss : List Shape) → AreFitDrawn layers ss → AllByRecursion IsWithinLimits (map (placed origin) ss)
 within_limits layers [] h = tt
 within_limits layers (s ∷ ss) h = (
   record {
-    points = All-from_recursion IsInRange (placed origin s).points (subst (λ (ps : List Pt). AllByRecursion IsInRange ps) (sym (moved_nowhere (core_points s.core))) h.0.fit.points);
-    width = h.0.fit.width;
+    points = All-from_recursion IsInRange (placed origin s).points (subst (λ (ps : List Pt). AllByRecursion IsInRange ps) (sym (moved_nowhere (core_points s.core))) h.0.points);
+    width = h.0.width;
   },
   within_limits layers ss h.1,
 )
@@ -42,6 +43,7 @@ pub keep_fits : (p : Parts) (k : KeepKind) (ss : List Shape) → AreFitDrawn (le
 keep_fits p k ss fit few = record {
   there = on_layers (length p.layers) ss fit;
   copper = All-from_recursion IsWithinLimits (map (placed origin) ss) (within_limits (length p.layers) ss fit);
+  cores = placed_cores origin (length p.layers) ss fit;
   few = count_is ss few;
 }
 
@@ -49,11 +51,13 @@ pub pad_fits : (p : Parts) (net : Option ℕ) (ss : List Shape) → ((n : ℕ) �
 pad_fits p None ss below fit few = record {
   there = on_layers (length p.layers) ss fit;
   copper = All-from_recursion IsWithinLimits (map (placed origin) ss) (within_limits (length p.layers) ss fit);
+  cores = placed_cores origin (length p.layers) ss fit;
   few = count_is ss few;
 }
 pad_fits p (Some n) ss below fit few = record {
   there = (below n refl, on_layers (length p.layers) ss fit);
   copper = All-from_recursion IsWithinLimits (map (placed origin) ss) (within_limits (length p.layers) ss fit);
+  cores = placed_cores origin (length p.layers) ss fit;
   few = count_is ss few;
 }
 

@@ -10,7 +10,7 @@ use Rattle.dsn_reader.specs.declared.wiring.WiringWord.TheVariants as words
 use Rattle.dsn_reader.specs.WireLists.{IsWire}
 use Rattle.dsn_reader.specs.ViaLists.{AreVias}
 use Rattle.dsn_reader.specs.Meaning.{IsOfWiring}
-use Rattle.dsn_reader.proofs.NetLaws.{Grows}
+use Rattle.dsn_lists.proofs.Growing.{Grows}
 use Rattle.dsn_reader.proofs.EndLaws.{ends_grow}
 
 -- ---- more nets
@@ -29,7 +29,7 @@ vias_grow u l a b End is g h = absurd h
 vias_grow u l a b (Branch at inside rest) is g h = absurd h
 vias_grow u l a b (Word at text rest) is g h =
     let v = h.2 in
-    (h.0, h.1, record { points = v.points; net = v.net; fix = v.fix; pairs = v.pairs; ends = ends_grow a b (behind_words rest) (record { net = Some v.net; fix = v.fix }) g v.ends; near = v.near; are = v.are })
+    (h.0, h.1, record { points = v.points; net = v.net; fix = v.fix; pairs = v.pairs; some = v.some; ends = ends_grow a b (behind_words rest) (record { net = Some v.net; fix = v.fix }) g v.ends; near = v.near; are = v.are })
 
 pub list_grows : (u : LengthUnit) (layers : List (List ℕ)) (l : Library) (a b : List (List ℕ)) (k : WiringWord) (f : Forest) (is : List Item) → Grows a b → IsOfWiring u layers l a k f is → IsOfWiring u layers l b k f is
 list_grows u layers l a b words.Wire f is g h = (h.0, wire_grows u layers a b f h.0 g h.1, h.2)

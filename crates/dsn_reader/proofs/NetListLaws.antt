@@ -12,7 +12,8 @@ use Rattle.dsn_lists.proofs.ShortLaws.{spare_again, stray_again, spare_then, spa
 use Rattle.dsn_reader.specs.declared.ends.Ends.{Ends}
 use Rattle.dsn_reader.specs.Wirings.{Netted, netted, net_number}
 use Rattle.dsn_reader.specs.EndLists.{with_names, first_name, IsNet, IsNetTooMany, NetFault}
-use Rattle.dsn_reader.proofs.NetLaws.{Grows, number_found, number_again, number_fault, number_fault_again}
+use Rattle.dsn_lists.proofs.Growing.{Grows}
+use Rattle.dsn_reader.proofs.NetLaws.{number_found, number_again, number_fault, number_fault_again}
 
 -- ---- `(net <id>)`
 

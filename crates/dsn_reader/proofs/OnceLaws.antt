@@ -3,7 +3,7 @@ use Rattle.std.proofs.Common.{◌≡◌, ℕ, false, List, [], ◌∷◌, ◌++�
 use Rattle.std.specs.Prelude.{is_some}
 use Rattle.sexp_text.specs.Forest.{Forest, End, Word, Branch}
 use Rattle.dsn_reader.specs.EndLists.{StateAtMostOne, IsNet}
-use Rattle.dsn_reader.proofs.NetLaws.{Grows}
+use Rattle.dsn_lists.proofs.Growing.{Grows}
 
 -- ---- what is stated at most once, behind what was stated before
 

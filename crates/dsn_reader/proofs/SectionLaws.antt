@@ -10,13 +10,14 @@ use Rattle.dsn_lists.specs.Results.{each}
 use Rattle.dsn_lists.specs.Words.{head_of}
 use Rattle.dsn_lists.specs.Lists.{collect}
 use Rattle.dsn_lists.proofs.Firsts.{made, ok_is, bind_ok}
-use Rattle.dsn_shapes.specs.declared.rooms.Room.{Room}
+use Rattle.dsn_shapes.specs.declared.quotas.Quota.{Quota}
 use Rattle.dsn_library.specs.declared.library.Library.{Library}
 use Rattle.dsn_reader.specs.declared.wiring.Wiring.{Wiring}
 use Rattle.dsn_reader.specs.Wirings.{Netted, netted, wiring_word, wiring_item, no_wiring}
 use Rattle.dsn_reader.specs.EndLists.{with_names}
 use Rattle.dsn_reader.specs.Meaning.{HaveItems, used_in, points_of_item, IsWiring, OfWiringFault, IsFirstFault}
-use Rattle.dsn_reader.proofs.NetLaws.{Grows, grows_same, grows_then, grows_with, with-append, long_with}
+use Rattle.dsn_lists.proofs.Growing.{Grows, grows_same, grows_then}
+use Rattle.dsn_reader.proofs.NetLaws.{grows_with, with-append, long_with}
 use Rattle.dsn_reader.proofs.EndLaws.{firsts_found, firsts_again}
 use Rattle.dsn_reader.proofs.AddedLaws.{points_in, IsAdded, added_found, same_wiring, added_again, added_fault, added_fault_again}
 use Rattle.dsn_reader.proofs.MoreNetLaws.{list_grows}
@@ -29,8 +30,8 @@ pub record AreAdded (u : LengthUnit) (layers : List (List ℕ)) (l : Library) (f
   pub few_nets : length y.nets ≤ 100000
   pub are : HaveItems u layers l final f more
   pub items : y.it.items ≡ x.it.items ++ more
-  pub count : x.it.room.items ≡ length more + y.it.room.items
-  pub points : x.it.room.points ≡ points_in l.stacks more + y.it.room.points
+  pub count : x.it.quota.items ≡ length more + y.it.quota.items
+  pub points : x.it.quota.points ≡ points_in l.stacks more + y.it.quota.points
 
 all_found : (u : LengthUnit) (layers : List (List ℕ)) (l : Library) (f : Forest) (x y : Netted Wiring) → length x.nets ≤ 100000 → each (wiring_item u layers l) x f ≡ Ok y
     → (more : List Item) × AreAdded u layers l y.nets x f more y
@@ -70,7 +71,7 @@ all_again : (u : LengthUnit) (layers : List (List ℕ)) (l : Library) (final : L
     → each (wiring_item u layers l) x f ≡ Ok y
 unfolding each wiring_item
 all_again u layers l final End x more y grows a =
-    ap made (same_wiring x y a.nets (a.items ∙ ap (λ (is : List Item). x.it.items ++ is) a.are) (a.count ∙ ap (λ (is : List Item). length is + y.it.room.items) a.are) (a.points ∙ ap (λ (is : List Item). points_in l.stacks is + y.it.room.points) a.are))
+    ap made (same_wiring x y a.nets (a.items ∙ ap (λ (is : List Item). x.it.items ++ is) a.are) (a.count ∙ ap (λ (is : List Item). length is + y.it.quota.items) a.are) (a.points ∙ ap (λ (is : List Item). points_in l.stacks is + y.it.quota.points) a.are))
 all_again u layers l final (Word at text rest) x more y grows a = absurd a.are
 all_again u layers l final (Branch at inside rest) x more y grows a =
     let here = a.are.0 in
@@ -78,16 +79,16 @@ all_again u layers l final (Branch at inside rest) x more y grows a =
     let parts = a.are.4 in
     let middle = with_names x.nets (used_in at inside) in
     let all : y.nets ≡ with_names middle (collect used_in rest) = a.nets ∙ with-append (used_in at inside) (collect used_in rest) x.nets in
-    let left : Room = record { items = length later + y.it.room.items; points = points_in l.stacks later + y.it.room.points } in
-    let m : Netted Wiring = netted middle (record { items = x.it.items ++ here; room = left }) in
+    let left : Quota = record { items = length later + y.it.quota.items; points = points_in l.stacks later + y.it.quota.points } in
+    let m : Netted Wiring = netted middle (record { items = x.it.items ++ here; quota = left }) in
     let long = long_with (collect used_in rest) middle in
     let few = a.few_nets in
     let same_length = ap length all in
     let items_all : y.it.items ≡ m.it.items ++ later = a.items ∙ ap (λ (is : List Item). x.it.items ++ is) parts ∙ sym (append_assoc x.it.items here later) in
     let sum = sum_by-append (points_of_item l.stacks) here later in
     let both = length-append here later in
-    let count : x.it.room.items ≡ length (here ++ later) + y.it.room.items = a.count ∙ ap (λ (is : List Item). length is + y.it.room.items) parts in
-    let points : x.it.room.points ≡ points_in l.stacks (here ++ later) + y.it.room.points = a.points ∙ ap (λ (is : List Item). points_in l.stacks is + y.it.room.points) parts in
+    let count : x.it.quota.items ≡ length (here ++ later) + y.it.quota.items = a.count ∙ ap (λ (is : List Item). length is + y.it.quota.items) parts in
+    let points : x.it.quota.points ≡ points_in l.stacks (here ++ later) + y.it.quota.points = a.points ∙ ap (λ (is : List Item). points_in l.stacks is + y.it.quota.points) parts in
     let first : IsAdded u layers l final x (wiring_word (head_of inside).text) (head_of inside).args here m = record {
       nets = refl;
       few_nets = omega (arith, long, few, same_length);
@@ -102,21 +103,21 @@ all_again u layers l final (Branch at inside rest) x more y grows a =
 
 -- ---- the section
 
-pub section_found : (u : LengthUnit) (layers : List (List ℕ)) (l : Library) (nets : List (List ℕ)) (room : Room) (f : Forest) (y : Netted Wiring) → length nets ≤ 100000 → each (wiring_item u layers l) (netted nets (no_wiring room)) f ≡ Ok y → IsWiring u layers l nets room f y
-section_found u layers l nets room f y few e =
-    let h = all_found u layers l f (netted nets (no_wiring room)) y few e in
+pub section_found : (u : LengthUnit) (layers : List (List ℕ)) (l : Library) (nets : List (List ℕ)) (quota : Quota) (f : Forest) (y : Netted Wiring) → length nets ≤ 100000 → each (wiring_item u layers l) (netted nets (no_wiring quota)) f ≡ Ok y → IsWiring u layers l nets quota f y
+section_found u layers l nets quota f y few e =
+    let h = all_found u layers l f (netted nets (no_wiring quota)) y few e in
     let a = h.1 in
     record {
       nets_are = a.nets;
       few_nets = a.few_nets;
       items_are = subst (λ (is : List Item). HaveItems u layers l y.nets f is) (sym a.items) a.are;
-      few_items = ap (λ (is : List Item). length is + y.it.room.items) a.items ∙ sym a.count;
-      few_points = ap (λ (is : List Item). points_in l.stacks is + y.it.room.points) a.items ∙ sym a.points;
+      few_items = ap (λ (is : List Item). length is + y.it.quota.items) a.items ∙ sym a.count;
+      few_points = ap (λ (is : List Item). points_in l.stacks is + y.it.quota.points) a.items ∙ sym a.points;
     }
 
-pub section_again : (u : LengthUnit) (layers : List (List ℕ)) (l : Library) (nets : List (List ℕ)) (room : Room) (f : Forest) (y : Netted Wiring) → IsWiring u layers l nets room f y → each (wiring_item u layers l) (netted nets (no_wiring room)) f ≡ Ok y
-section_again u layers l nets room f y h =
-    all_again u layers l y.nets f (netted nets (no_wiring room)) y.it.items y (grows_same y.nets)
+pub section_again : (u : LengthUnit) (layers : List (List ℕ)) (l : Library) (nets : List (List ℕ)) (quota : Quota) (f : Forest) (y : Netted Wiring) → IsWiring u layers l nets quota f y → each (wiring_item u layers l) (netted nets (no_wiring quota)) f ≡ Ok y
+section_again u layers l nets quota f y h =
+    all_again u layers l y.nets f (netted nets (no_wiring quota)) y.it.items y (grows_same y.nets)
     (record { nets = h.nets_are; few_nets = h.few_nets; are = h.items_are; items = refl; count = sym h.few_items; points = sym h.few_points })
 
 abbrev OfWiring : LengthUnit → List (List ℕ) → Library → Netted Wiring → ℕ → Forest → DesignFault → Type 0
@@ -130,12 +131,12 @@ item_fault_again : (u : LengthUnit) (layers : List (List ℕ)) (l : Library) (x 
 unfolding wiring_item
 item_fault_again u layers l x at inside e h = added_fault_again u layers l x at (head_of inside) (wiring_word (head_of inside).text) e h
 
-pub section_fault : (u : LengthUnit) (layers : List (List ℕ)) (l : Library) (nets : List (List ℕ)) (room : Room) (f : Forest) (e : DesignFault) → length nets ≤ 100000 → each (wiring_item u layers l) (netted nets (no_wiring room)) f ≡ Err e → IsFirstFault u layers l nets room f e
-section_fault u layers l nets room f e few h =
-    firsts_found (wiring_item u layers l) (netted nets (no_wiring room)) (IsWiring u layers l nets room) (OfWiring u layers l) (λ f y k. section_found u layers l nets room f y few k)
+pub section_fault : (u : LengthUnit) (layers : List (List ℕ)) (l : Library) (nets : List (List ℕ)) (quota : Quota) (f : Forest) (e : DesignFault) → length nets ≤ 100000 → each (wiring_item u layers l) (netted nets (no_wiring quota)) f ≡ Err e → IsFirstFault u layers l nets quota f e
+section_fault u layers l nets quota f e few h =
+    firsts_found (wiring_item u layers l) (netted nets (no_wiring quota)) (IsWiring u layers l nets quota) (OfWiring u layers l) (λ f y k. section_found u layers l nets quota f y few k)
     (λ f y at inside e has k. item_fault u layers l y at inside e has.few_nets k) f e h
 
-pub section_fault_again : (u : LengthUnit) (layers : List (List ℕ)) (l : Library) (nets : List (List ℕ)) (room : Room) (f : Forest) (e : DesignFault) → IsFirstFault u layers l nets room f e → each (wiring_item u layers l) (netted nets (no_wiring room)) f ≡ Err e
-section_fault_again u layers l nets room f e h =
-    firsts_again (wiring_item u layers l) (netted nets (no_wiring room)) (IsWiring u layers l nets room) (OfWiring u layers l) (section_again u layers l nets room)
+pub section_fault_again : (u : LengthUnit) (layers : List (List ℕ)) (l : Library) (nets : List (List ℕ)) (quota : Quota) (f : Forest) (e : DesignFault) → IsFirstFault u layers l nets quota f e → each (wiring_item u layers l) (netted nets (no_wiring quota)) f ≡ Err e
+section_fault_again u layers l nets quota f e h =
+    firsts_again (wiring_item u layers l) (netted nets (no_wiring quota)) (IsWiring u layers l nets quota) (OfWiring u layers l) (section_again u layers l nets quota)
     (λ f y at inside e has k. item_fault_again u layers l y at inside e k) f e h

@@ -15,7 +15,8 @@ use Rattle.board_items.specs.declared.items.Item.TheVariants as items
 use Rattle.board_items.specs.declared.items.Padstack.{Padstack}
 use Rattle.board_items.specs.Shapes.{shapes_of, copper_of_item}
 use Rattle.board_rules.specs.declared.design.Parts.{Parts}
-use Rattle.board_rules.specs.Designs.{IsFitItem, NamesThere}
+use Rattle.board_rules.specs.Designs.{HasCore, HasEnough, IsFitItem, NamesThere}
+use Rattle.board_rules.proofs.Cores.{placed_core}
 use Rattle.dsn_lists.specs.declared.faults.DesignKind.TheVariants as kind
 use Rattle.dsn_lists.specs.declared.marks.Mark.{Mark}
 use Rattle.dsn_lists.specs.declared.places.Coordinates.{Coordinates}
@@ -29,9 +30,9 @@ use Rattle.dsn_lists.specs.Layers.{one_layer}
 use Rattle.dsn_lists.specs.Shapes.{path_of}
 use Rattle.dsn_lists.specs.Pcbs.{Spot, design_of, section_in}
 use Rattle.dsn_lists.proofs.Bounds.{ok_is, err_gives, bind_ok, then_ok, else_ok, each_keeps, all_push, place_bound, one_layer_bound, path_of_bound}
-use Rattle.dsn_shapes.specs.declared.rooms.Room.{Room}
+use Rattle.dsn_shapes.specs.declared.quotas.Quota.{Quota}
 use Rattle.dsn_shapes.specs.Limits.{AreFitDrawn}
-use Rattle.dsn_shapes.specs.Rooms.{room_for, room_behind}
+use Rattle.dsn_shapes.specs.Quotas.{quota_for, quota_behind}
 use Rattle.dsn_library.specs.declared.library.Library.{Library}
 use Rattle.dsn_library.specs.Limits.{IsFitStack, IsFitLibrary}
 use Rattle.dsn_reader.specs.declared.ends.Ends.{Ends}
@@ -45,30 +46,35 @@ use Rattle.dsn_reader.specs.declared.wiring.Wiring.{Wiring}
 use Rattle.dsn_reader.specs.declared.wiring.WiringWord.{WiringWord}
 use Rattle.dsn_reader.specs.declared.wiring.WiringWord.TheVariants as words
 use Rattle.dsn_reader.specs.Wirings.{Netted, netted, numbered, net_number, type_list, net_list, type_once, end_word, end_list, end_item, no_ends, is_fixed, with_item, track_of, path_once, wire_word, ended_draft, wire_list, wire_item, no_draft, wire_with, as_wire, wire_of, known_stack, is_near, is_point_near, is_shape_near, are_near, Kindred, via_at, vias_at, as_points, some_net, via_of, wiring_word, wiring_list, wiring_item, no_wiring, wiring_at, wiring_of}
-use Rattle.dsn_reader.specs.Limits.{NamesOneOf, IsFitLoaded, IsFitWiring}
+use Rattle.dsn_reader.specs.Limits.{NamesOneOf, IsFitLoaded}
+
+-- at most 100,000 nets; all wires and vias are within the limits
+pub record IsFitWiring (layers : ℕ) (stacks : List Padstack) (x : Netted Wiring) : Type 0 where
+  pub nets : length x.nets ≤ 100000
+  pub items : AllByRecursion (IsFitLoaded (length x.nets) layers stacks) x.it.items
 
 -- ---- nets
 
 -- there are no fewer nets than before, and at most 100,000
-abbrev HasRoom : ℕ → List (List ℕ) → Type 0
-HasRoom n nets = (n ≤ length nets) × (length nets ≤ 100000)
+abbrev AreGrown : ℕ → List (List ℕ) → Type 0
+AreGrown n nets = (n ≤ length nets) × (length nets ≤ 100000)
 
 -- a net that is named is there
 abbrev IsFitEnds : ℕ → Netted Ends → Type 0
-IsFitEnds n x = HasRoom n x.nets × IfSome x.it.net (λ k. k < length x.nets)
+IsFitEnds n x = AreGrown n x.nets × IfSome x.it.net (λ k. k < length x.nets)
 
-fit_numbered : (nets : List (List ℕ)) (w : Mark) (o : Option ℕ) (y : Netted ℕ) → length nets ≤ 100000 → ((k : ℕ) → o ≡ Some k → k < length nets) → numbered nets w o ≡ Ok y → HasRoom (length nets) y.nets × (y.it < length y.nets)
+fit_numbered : (nets : List (List ℕ)) (w : Mark) (o : Option ℕ) (y : Netted ℕ) → length nets ≤ 100000 → ((k : ℕ) → o ≡ Some k → k < length nets) → numbered nets w o ≡ Ok y → AreGrown (length nets) y.nets × (y.it < length y.nets)
 fit_numbered nets w (Some k) y few below e =
-    let own : HasRoom (length nets) nets × (k < length nets) = ((le_refl (length nets), few), below k refl) in
-    subst (λ (x : Netted ℕ). HasRoom (length nets) x.nets × (x.it < length x.nets)) (ok_is e) own
+    let own : AreGrown (length nets) nets × (k < length nets) = ((le_refl (length nets), few), below k refl) in
+    subst (λ (x : Netted ℕ). AreGrown (length nets) x.nets × (x.it < length x.nets)) (ok_is e) own
 fit_numbered nets w None y few below e =
     let a = else_ok (nat_lt 99999 (length nets)) (Ok (netted (nets ++ w.name ∷ []) (length nets))) kind.Large w.at y e in
-    let room : length nets < 100000 = grind (arith, a.0) in
+    let quota : length nets < 100000 = grind (arith, a.0) in
     let more = length-append nets (w.name ∷ []) in
-    let own : HasRoom (length nets) (nets ++ w.name ∷ []) × (length nets < length (nets ++ w.name ∷ [])) = ((omega (arith, more), omega (arith, more, room)), omega (arith, more)) in
-    subst (λ (x : Netted ℕ). HasRoom (length nets) x.nets × (x.it < length x.nets)) (ok_is a.1) own
+    let own : AreGrown (length nets) (nets ++ w.name ∷ []) × (length nets < length (nets ++ w.name ∷ [])) = ((omega (arith, more), omega (arith, more, quota)), omega (arith, more)) in
+    subst (λ (x : Netted ℕ). AreGrown (length nets) x.nets × (x.it < length x.nets)) (ok_is a.1) own
 
-fit_net_number : (nets : List (List ℕ)) (w : Mark) (y : Netted ℕ) → length nets ≤ 100000 → net_number nets w ≡ Ok y → HasRoom (length nets) y.nets × (y.it < length y.nets)
+fit_net_number : (nets : List (List ℕ)) (w : Mark) (y : Netted ℕ) → length nets ≤ 100000 → net_number nets w ≡ Ok y → AreGrown (length nets) y.nets × (y.it < length y.nets)
 unfolding net_number
 fit_net_number nets w y few e = fit_numbered nets w (place_of nets w.name) y few (place_bound nets w.name) e
 
@@ -106,8 +112,8 @@ fit_end_item n x at inside y p e = fit_end_list n x at (head_of inside) (end_wor
 
 -- what is fit stays so as nets grow
 more_nets : (n m layers : ℕ) (stacks : List Padstack) (i : Item) → n ≤ m → IsFitLoaded n layers stacks i → IsFitLoaded m layers stacks i
-more_nets n m layers stacks (items.Wire net layer width points fix) low p = record { there = (omega (arith, low, p.there.0), p.there.1); copper = p.copper }
-more_nets n m layers stacks (items.Via net padstack place fix) low p = record { there = (omega (arith, low, p.there.0), p.there.1); copper = p.copper }
+more_nets n m layers stacks (items.Wire net layer width points fix) low p = record { there = (omega (arith, low, p.there.0), p.there.1); copper = p.copper; cores = p.cores }
+more_nets n m layers stacks (items.Via net padstack place fix) low p = record { there = (omega (arith, low, p.there.0), p.there.1); copper = p.copper; cores = p.cores }
 more_nets n m layers stacks (items.Pad net shapes) low p = absurd p.there
 more_nets n m layers stacks (items.Keep k shapes) low p = absurd p.there
 
@@ -119,14 +125,14 @@ all_more_nets n m layers stacks (x ∷ xs) low p = (more_nets n m layers stacks 
 abbrev AreFitItems : ℕ → ℕ → List Padstack → Wiring → Type 0
 AreFitItems n layers stacks w = AllByRecursion (IsFitLoaded n layers stacks) w.items
 
-fit_with_item : (n layers : ℕ) (stacks : List Padstack) (at : ℕ) (w : Wiring) (i : Item) (o : Option Room) (y : Wiring) → IsFitLoaded n layers stacks i → AreFitItems n layers stacks w → with_item at w i o ≡ Ok y → AreFitItems n layers stacks y
+fit_with_item : (n layers : ℕ) (stacks : List Padstack) (at : ℕ) (w : Wiring) (i : Item) (o : Option Quota) (y : Wiring) → IsFitLoaded n layers stacks i → AreFitItems n layers stacks w → with_item at w i o ≡ Ok y → AreFitItems n layers stacks y
 fit_with_item n layers stacks at w i None y fit p e = absurd (err_gives e)
-fit_with_item n layers stacks at w i (Some room) y fit p e = subst (AreFitItems n layers stacks) (ok_is {x = record { items = w.items ++ i ∷ []; room = room }} e) (all_push (IsFitLoaded n layers stacks) w.items i p fit)
+fit_with_item n layers stacks at w i (Some quota) y fit p e = subst (AreFitItems n layers stacks) (ok_is {x = record { items = w.items ++ i ∷ []; quota = quota }} e) (all_push (IsFitLoaded n layers stacks) w.items i p fit)
 
 -- ---- wires
 
 abbrev IsFitTrack : ℕ → Track → Type 0
-IsFitTrack layers t = (t.layer < layers) × (t.width ≤ 100000000) × AllByRecursion IsInRange t.points
+IsFitTrack layers t = (t.layer < layers) × (t.width ≤ 100000000) × AllByRecursion IsInRange t.points × (2 ≤ length t.points)
 
 fit_track_of : (u : LengthUnit) (layers : List (List ℕ)) (at : ℕ) (f : Forest) (y : Track) → track_of u layers at f ≡ Ok y → IsFitTrack (length layers) y
 unfolding track_of
@@ -135,7 +141,7 @@ fit_track_of u layers at f y e =
     let b = bind_ok (one_layer layers a.0.0) _ y a.2 in
     let c = bind_ok (path_of u at a.0.1) _ y b.2 in
     let fit = path_of_bound u at a.0.1 c.0 c.1 in
-    let own : IsFitTrack (length layers) (record { layer = b.0; width = c.0.width; points = c.0.points }) = (one_layer_bound layers a.0.0 b.0 b.1, fit.width, fit.points) in
+    let own : IsFitTrack (length layers) (record { layer = b.0; width = c.0.width; points = c.0.points }) = (one_layer_bound layers a.0.0 b.0 b.1, fit.width, fit.points, fit.count) in
     subst (IsFitTrack (length layers)) (ok_is c.2) own
 
 abbrev IsFitDraft : ℕ → ℕ → Netted Draft → Type 0
@@ -175,8 +181,9 @@ fit_wire_with n layers stacks at w (Some t) (Some net) fix y track below p e =
     let own : IsFitLoaded n layers stacks (items.Wire net t.layer t.width t.points (is_fixed fix)) = record {
       there = (below, track.0);
       copper = (record { points = All-from_recursion IsInRange t.points track.2; width = track.1 }, tt);
+      cores = ((let many = track.3 in omega (arith, many)), tt);
     } in
-    fit_with_item n layers stacks at w (items.Wire net t.layer t.width t.points (is_fixed fix)) (room_for w.room (length t.points)) y own p e
+    fit_with_item n layers stacks at w (items.Wire net t.layer t.width t.points (is_fixed fix)) (quota_for w.quota (length t.points)) y own p e
 fit_wire_with n layers stacks at w (Some t) None fix y track below p e = absurd (err_gives e)
 fit_wire_with n layers stacks at w None net fix y track below p e = absurd (err_gives e)
 
@@ -217,13 +224,17 @@ near_points p [] e = tt
 near_points p (q ∷ qs) e = let s = and_parts (is_point_near p q) (list_all (is_point_near p) qs) e in (near_point p q s.0, near_points p qs s.1)
 
 abbrev IsThin : Shape → Type 0
-IsThin s = s.width ≤ 100000000
+IsThin s = (s.width ≤ 100000000) × HasCore s.core
 
 near_shapes : (p : Pt) (ss : List Shape) → AllByRecursion IsThin ss → list_all (is_shape_near p) ss ≡ true → AllByRecursion IsWithinLimits (map (placed p) ss)
 near_shapes p [] thin e = tt
 near_shapes p (s ∷ ss) thin e =
     let a = and_parts (is_shape_near p s) (list_all (is_shape_near p) ss) e in
-    (record { points = All-from_recursion IsInRange (map (moved p) (core_points s.core)) (near_points p (core_points s.core) a.0); width = thin.0 }, near_shapes p ss thin.1 a.1)
+    (record { points = All-from_recursion IsInRange (map (moved p) (core_points s.core)) (near_points p (core_points s.core) a.0); width = thin.0.0 }, near_shapes p ss thin.1 a.1)
+
+enough_shapes : (p : Pt) (ss : List Shape) → AllByRecursion IsThin ss → AllByRecursion HasEnough (map (placed p) ss)
+enough_shapes p [] thin = tt
+enough_shapes p (s ∷ ss) thin = (placed_core p s thin.0.1, enough_shapes p ss thin.1)
 
 -- what all vias of a list have in common
 abbrev kindred : ℕ → ℕ → Library → Bool → Kindred
@@ -240,8 +251,9 @@ fit_via_at n layers stacks at v w p y fit old e =
     let own : IsFitLoaded n layers stacks (items.Via v.net v.stack p v.fix) = record {
       there = (fit.0, fit.1);
       copper = subst (λ (ss : List Shape). AllByRecursion IsWithinLimits (map (placed p) ss)) (sym fit.2) (near_shapes p v.shapes fit.3 a.0);
+      cores = subst (λ (ss : List Shape). AllByRecursion HasEnough (map (placed p) ss)) (sym fit.2) (enough_shapes p v.shapes fit.3);
     } in
-    fit_with_item n layers stacks at w (items.Via v.net v.stack p v.fix) (room_behind w.room v.shapes) y own old a.1
+    fit_with_item n layers stacks at w (items.Via v.net v.stack p v.fix) (quota_behind w.quota v.shapes) y own old a.1
 
 fit_vias_at : (n layers : ℕ) (stacks : List Padstack) (at : ℕ) (v : Kindred) (w : Wiring) (ps : List Pt) (y : Wiring) → IsFitKindred n stacks v → AreFitItems n layers stacks w → vias_at at v w ps ≡ Ok y → AreFitItems n layers stacks y
 unfolding vias_at
@@ -260,7 +272,7 @@ some_net_is at n None e = absurd (err_gives e)
 
 thin_shapes : (layers : ℕ) (ss : List Shape) → AreFitDrawn layers ss → AllByRecursion IsThin ss
 thin_shapes layers [] p = tt
-thin_shapes layers (s ∷ ss) p = (p.0.fit.width, thin_shapes layers ss p.1)
+thin_shapes layers (s ∷ ss) p = ((p.0.width, p.0.core), thin_shapes layers ss p.1)
 
 thin_at : (layers n : ℕ) (stacks : List Padstack) → AllByRecursion (IsFitStack layers) stacks → AllByRecursion IsThin (shapes_of (slice_get stacks n))
 thin_at layers n [] p = tt
@@ -324,16 +336,16 @@ fit_wiring_item : (u : LengthUnit) (layers : List (List ℕ)) (l : Library) → 
 unfolding wiring_item
 fit_wiring_item u layers l library x at inside y p e = fit_wiring_list u layers l library x at (head_of inside) (wiring_word (head_of inside).text) y p e
 
-fit_wiring_at : (u : LengthUnit) (layers : List (List ℕ)) (l : Library) (nets : List (List ℕ)) (room : Room) (s : Spot) (y : Netted Wiring) → IsFitLibrary (length layers) l → length nets ≤ 100000 → wiring_at u layers l nets room s ≡ Ok y → IsFitSoFar (length layers) l.stacks y
+fit_wiring_at : (u : LengthUnit) (layers : List (List ℕ)) (l : Library) (nets : List (List ℕ)) (quota : Quota) (s : Spot) (y : Netted Wiring) → IsFitLibrary (length layers) l → length nets ≤ 100000 → wiring_at u layers l nets quota s ≡ Ok y → IsFitSoFar (length layers) l.stacks y
 unfolding wiring_at
-fit_wiring_at u layers l nets room s y library few e =
-    each_keeps (IsFitSoFar (length layers) l.stacks) (wiring_item (governing u s.args) layers l) (fit_wiring_item (governing u s.args) layers l library) (netted nets (no_wiring room)) s.args y (few, tt) e
+fit_wiring_at u layers l nets quota s y library few e =
+    each_keeps (IsFitSoFar (length layers) l.stacks) (wiring_item (governing u s.args) layers l) (fit_wiring_item (governing u s.args) layers l library) (netted nets (no_wiring quota)) s.args y (few, tt) e
 
-pub wiring_of_fit : (f : Forest) (layers : List (List ℕ)) (l : Library) (nets : List (List ℕ)) (room : Room) (y : Netted Wiring) → IsFitLibrary (length layers) l → length nets ≤ 100000 → wiring_of f layers l nets room ≡ Ok y → IsFitWiring (length layers) l.stacks y
+pub wiring_of_fit : (f : Forest) (layers : List (List ℕ)) (l : Library) (nets : List (List ℕ)) (quota : Quota) (y : Netted Wiring) → IsFitLibrary (length layers) l → length nets ≤ 100000 → wiring_of f layers l nets quota ≡ Ok y → IsFitWiring (length layers) l.stacks y
 unfolding wiring_of
-wiring_of_fit f layers l nets room y library few e =
+wiring_of_fit f layers l nets quota y library few e =
     let a = bind_ok (design_of f) _ y e in
-    let s = fit_wiring_at a.0.unit layers l nets room (section_in sections.Wiring f) y library few a.2 in
+    let s = fit_wiring_at a.0.unit layers l nets quota (section_in sections.Wiring f) y library few a.2 in
     record { nets = s.0; items = s.1 }
 
 -- ---- items of a design
@@ -362,6 +374,7 @@ pub fit_item : (p : Parts) (n : ℕ) (i : Item) → n ≡ length p.nets → AreF
 fit_item p n i same few h = record {
   there = names_there p n i same h.there;
   copper = All-from_recursion IsWithinLimits (copper_of_item p.stacks i) h.copper;
+  cores = All-from_recursion HasEnough (copper_of_item p.stacks i) h.cores;
   few = few_copper n (length p.layers) p.stacks i few h;
 }
 

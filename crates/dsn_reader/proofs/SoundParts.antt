@@ -18,10 +18,10 @@ use Rattle.board_items.specs.declared.items.Padstack.{Padstack}
 use Rattle.board_rules.specs.declared.design.ClassRow.{ClassRow}
 use Rattle.board_rules.specs.declared.design.NetRow.{NetRow}
 use Rattle.board_rules.specs.declared.design.Parts.{Parts}
-use Rattle.board_rules.specs.Designs.{AreThere, IsFitShape, IsFitClass, IsFitItem, IsSound}
+use Rattle.board_rules.specs.Designs.{HasCore, AreThere, IsFitClass, IsFitItem, IsSound}
 use Rattle.dsn_lists.specs.declared.marks.Mark.{Mark}
 use Rattle.dsn_lists.specs.declared.rules.Rule.{Rule}
-use Rattle.dsn_lists.specs.Results.{Read, ◌>>=◌}
+use Rattle.dsn_lists.specs.Results.{◌>>=◌}
 use Rattle.dsn_lists.specs.Names.{place_of}
 use Rattle.dsn_lists.specs.Pcbs.{design_of}
 use Rattle.dsn_lists.specs.Lists.{collect}
@@ -29,36 +29,35 @@ use Rattle.dsn_lists.specs.Limits.{IsFitRule}
 use Rattle.dsn_lists.proofs.Bounds.{ok_is, bind_ok, all_push, place_bound}
 use Rattle.dsn_structure.specs.declared.structure.Structure.{Structure}
 use Rattle.dsn_structure.specs.Structures.{structure_of}
-use Rattle.dsn_shapes.specs.declared.rooms.Room.{Room}
-use Rattle.dsn_shapes.specs.RoomLists.{points_of_shapes}
-use Rattle.dsn_shapes.specs.Limits.{HasCore, AreFitDrawn, AreFitAreas}
+use Rattle.dsn_shapes.specs.declared.quotas.Quota.{Quota}
+use Rattle.dsn_shapes.specs.QuotaLists.{points_of_shapes}
+use Rattle.dsn_shapes.specs.Limits.{AreFitDrawn}
 use Rattle.dsn_structure.specs.Limits.{IsFitKeep, IsFitStructure}
 use Rattle.dsn_structure.proofs.Sound.{structure_of_fit, structure_of_few}
 use Rattle.dsn_library.specs.declared.library.Library.{Library}
-use Rattle.dsn_library.specs.declared.classes.Class.{Class}
-use Rattle.dsn_library.specs.declared.network.Network.{Network}
+use Rattle.dsn_network.specs.declared.classes.Class.{Class}
+use Rattle.dsn_network.specs.declared.network.Network.{Network}
 use Rattle.dsn_library.specs.Libraries.{library_of}
-use Rattle.dsn_library.specs.declared.images.Image.{Image}
-use Rattle.dsn_library.specs.declared.images.ImagePart.{ImagePart}
-use Rattle.dsn_library.specs.declared.images.ImagePart.TheVariants as parts
-use Rattle.dsn_library.specs.declared.placement.Placed.{Placed}
-use Rattle.dsn_library.specs.declared.placement.Placed.TheVariants as placed
-use Rattle.dsn_library.specs.declared.placement.Placement.{Placement}
-use Rattle.dsn_library.specs.Components.{placement_of}
-use Rattle.dsn_library.specs.PlaceParts.{shapes_of_placed, points_of_parts}
-use Rattle.dsn_library.specs.PlaceLimits.{IsFitPart, HasFitShapes, IsFitPlaced}
-use Rattle.dsn_library.specs.References.{net_at}
-use Rattle.dsn_library.specs.Networks.{network_of, in_class, named_in, classed}
-use Rattle.dsn_library.specs.Limits.{IsFitStack, IsFitImagePart, IsFitImage, IsFitLibrary, HaveAtMost, IsFitNetwork}
-use Rattle.dsn_library.proofs.Sound.{library_of_fit, library_of_few}
-use Rattle.dsn_library.proofs.NetworkSound.{network_of_fit}
-use Rattle.dsn_library.proofs.NetworkWhole.{has_found as network_found}
-use Rattle.dsn_library.proofs.PlacementWhole.{has_found as placement_found}
-use Rattle.dsn_library.proofs.PlaceFits.{placement_fit}
+use Rattle.dsn_placement.specs.declared.placement.PlacedPart.{PlacedPart}
+use Rattle.dsn_placement.specs.declared.placement.PlacedPart.TheVariants as placed
+use Rattle.dsn_placement.specs.declared.placement.Placement.{Placement}
+use Rattle.dsn_placement.specs.Components.{placement_of}
+use Rattle.dsn_placement.specs.PlaceParts.{shapes_of_placed, points_of_parts}
+use Rattle.dsn_placement.specs.PlaceLimits.{IsFitPlaced}
+use Rattle.dsn_network.specs.References.{net_at}
+use Rattle.dsn_network.specs.Networks.{network_of, in_class, named_in, classed}
+use Rattle.dsn_library.specs.Limits.{IsFitStack, IsFitLibrary}
+use Rattle.dsn_network.specs.Limits.{IsFitNetwork}
+use Rattle.dsn_library.proofs.Sound.{library_of_fit, HaveAtMost, library_of_few}
+use Rattle.dsn_placement.proofs.FitShapes.{fit_shapes}
+use Rattle.dsn_network.proofs.NetworkSound.{network_of_fit}
+use Rattle.dsn_network.proofs.NetworkWhole.{has_found as network_found}
+use Rattle.dsn_placement.proofs.PlacementWhole.{has_found as placement_found}
+use Rattle.dsn_placement.proofs.PlaceFits.{placement_fit}
 use Rattle.dsn_reader.specs.declared.wiring.Wiring.{Wiring}
 use Rattle.dsn_reader.specs.Wirings.{Netted, wiring_of}
-use Rattle.dsn_reader.specs.Assembly.{known_vias, with_number, numbers_of, held_vias, last_vias, class_row, class_rows, all_classes, net_row, row_at, net_rows, classes_of, item_of, Gathered, assembled, Wired, wired_of, behind_library, sections_of, parts_of}
-use Rattle.dsn_reader.specs.Limits.{IsFitWiring}
+use Rattle.dsn_reader.specs.Assembly.{known_vias, with_number, numbers_of, held_vias, last_vias, class_row, class_rows, row_at, net_rows, classes_of, item_of, Gathered, assembled, Wired, wired_of, behind_library, sections_of, parts_of}
+use Rattle.dsn_reader.proofs.Sound.{IsFitWiring}
 use Rattle.dsn_reader.specs.Meaning.{used_in, section as wiring_in}
 use Rattle.dsn_reader.proofs.Sound.{wiring_of_fit, fit_items}
 use Rattle.dsn_reader.proofs.AssemblyLaws.{loaded_are}
@@ -188,15 +187,15 @@ keeps_fit p (items.Via net stack place fix ∷ is) h = absurd h.0
 keeps_fit p (items.Pad net ss ∷ is) h = absurd h.0
 
 -- pads and keepouts of so few points, each pad with the net of its pin
-placed_fit : (p : Parts) (pins : List ((ℕ × ℕ) × ℕ)) (xs : List Placed) → AllByRecursion (λ (q : (ℕ × ℕ) × ℕ). q.1 < length p.nets) pins → AllByRecursion (IsFitPlaced (length p.layers)) xs → points_of_parts xs ≤ 4000000
+placed_fit : (p : Parts) (pins : List ((ℕ × ℕ) × ℕ)) (xs : List PlacedPart) → AllByRecursion (λ (q : (ℕ × ℕ) × ℕ). q.1 < length p.nets) pins → AllByRecursion (IsFitPlaced (length p.layers)) xs → points_of_parts xs ≤ 4000000
     → AllByRecursion (IsFitItem p) (map (item_of pins) xs)
 placed_fit p pins [] below h low = tt
 placed_fit p pins (placed.Pad c q ss ∷ xs) below h low =
-    let sum = sum_by-cons (λ (x : Placed). points_of_shapes (shapes_of_placed x)) (placed.Pad c q ss) xs in
+    let sum = sum_by-cons (λ (x : PlacedPart). points_of_shapes (shapes_of_placed x)) (placed.Pad c q ss) xs in
     let few = shapes_few (length p.layers) ss h.0 in
     (pad_fits p (net_at pins (c, q)) ss (λ n e. net_below (length p.nets) pins (c, q) n below e) h.0 (omega (arith, sum, few, low)), placed_fit p pins xs below h.1 (omega (arith, sum, low)))
 placed_fit p pins (placed.Keep k ss ∷ xs) below h low =
-    let sum = sum_by-cons (λ (x : Placed). points_of_shapes (shapes_of_placed x)) (placed.Keep k ss) xs in
+    let sum = sum_by-cons (λ (x : PlacedPart). points_of_shapes (shapes_of_placed x)) (placed.Keep k ss) xs in
     let few = shapes_few (length p.layers) ss h.0 in
     (keep_fits p k ss h.0 (omega (arith, sum, few, low)), placed_fit p pins xs below h.1 (omega (arith, sum, low)))
 
@@ -213,32 +212,6 @@ few_all : (most : ℕ) (ps : List Padstack) → most < 2 ^ 32 → HaveAtMost mos
 few_all most [] low h = tt
 few_all most (p ∷ ps) low h = (omega (arith, low, h.0), few_all most ps low h.1)
 
-areas_in_range : (areas : List (List Pt)) → AreFitAreas areas → AllByRecursion (AllByRecursion IsInRange) areas
-areas_in_range [] h = tt
-areas_in_range (a ∷ areas) h = (h.0.points_fit, areas_in_range areas h.1)
-
-drawn_fit : (layers : ℕ) (ss : List Shape) → AreFitDrawn layers ss → AllByRecursion (IsFitShape layers) ss
-drawn_fit layers [] h = tt
-drawn_fit layers (s ∷ ss) h = (h.0.fit, drawn_fit layers ss h.1)
-
-stacks_fit : (layers : ℕ) (stacks : List Padstack) → AllByRecursion (IsFitStack layers) stacks → AllByRecursion (λ (p : Padstack). AllByRecursion (IsFitShape layers) p.shapes) stacks
-stacks_fit layers [] h = tt
-stacks_fit layers (p ∷ stacks) h = (drawn_fit layers p.shapes h.0, stacks_fit layers stacks h.1)
-
--- the shapes of padstacks and images are within the limits
-
-parts_fit : (layers stacks ids : ℕ) (xs : List ImagePart) → AllByRecursion (IsFitImagePart layers stacks ids) xs → AllByRecursion (IsFitPart layers) xs
-parts_fit layers stacks ids [] h = tt
-parts_fit layers stacks ids (parts.Pin stack id eighths at ∷ xs) h = (tt, parts_fit layers stacks ids xs h.1)
-parts_fit layers stacks ids (parts.Keep k ss ∷ xs) h = (h.0, parts_fit layers stacks ids xs h.1)
-
-images_fit : (layers stacks : ℕ) (images : List Image) → AllByRecursion (IsFitImage layers stacks) images → AllByRecursion (λ (m : Image). AllByRecursion (IsFitPart layers) m.parts) images
-images_fit layers stacks [] h = tt
-images_fit layers stacks (m ∷ images) h = (parts_fit layers stacks (length m.ids) m.parts h.0, images_fit layers stacks images h.1)
-
-fit_shapes : (layers : ℕ) (l : Library) → IsFitLibrary layers l → HasFitShapes layers l
-fit_shapes layers l h = record { stacks = h.shapes; images = images_fit layers (length l.stacks) l.images h.images }
-
 -- what is within the limits of all that the sections state
 record AreFitSections (s : Structure) (l : Library) (p : Placement) (n : Network) (w : Netted Wiring) (most : ℕ) : Type 0 where
   structure : IsFitStructure s
@@ -251,8 +224,9 @@ record AreFitSections (s : Structure) (l : Library) (p : Placement) (n : Network
   more_nets : length n.nets ≤ length w.nets
   wiring : IsFitWiring (length s.layers) l.stacks w
 
-fit_gathering : (name : List ℕ) (s : Structure) (l : Library) (x : Placement) (n : Network) (w : Netted Wiring) (most : ℕ) → most < 2 ^ 32 → AreFitSections s l x n w most → IsSound (assembled (gathering name s l x n w))
-fit_gathering name s l x n w most low h =
+fit_gathering : (name : List ℕ) (s : Structure) (l : Library) (x : Placement) (n : Network) (w : Netted Wiring) (most : ℕ) → most < 2 ^ 32 → AreFitSections s l x n w most
+    → length (assembled (gathering name s l x n w)).items ≤ 200000 → IsSound (assembled (gathering name s l x n w))
+fit_gathering name s l x n w most low h few_items =
     let p = assembled (gathering name s l x n w) in
     let count = length_rows l.names (class_row l.names [] s.vias s.rule ∷ []) n.classes in
     let nets = length_net_rows (length w.nets) w.nets (classes_of n) in
@@ -271,12 +245,14 @@ fit_gathering name s l x n w most low h =
       some_class = some;
       few_layers = h.structure.few_layers;
       few_nets = omega (arith, nets, few_nets);
+      few_stacks = h.library.few;
       few_areas = omega (arith, few_areas, low);
+      few_items = few_items;
       nets = rows_below (length p.classes) (length w.nets) w.nets (classes_of n) some (all_below (1 + length n.classes) (length p.classes) (classes_of n) (omega (arith, count)) below);
       classes = fit_rows (length l.stacks) l.names (class_row l.names [] s.vias s.rule ∷ []) n.classes h.library.names (fit_row (length l.stacks) l.names [] s.vias s.rule h.library.names h.structure.rule, tt) h.network.rules;
-      stacks = stacks_fit (length s.layers) l.stacks h.library.shapes;
+      stacks = h.library.shapes;
       few_shapes = small;
-      outline = areas_in_range s.outline h.structure.outline;
+      outline = h.structure.outline;
       items = subst (λ (is : List Item). AllByRecursion (IsFitItem p) is) (sym (loaded_are n.pins s.keeps x.parts w.it.items)) loaded;
     }
 
@@ -290,7 +266,7 @@ record Behind (f : Forest) (name : List ℕ) (s : Structure) (l : Library) (g : 
   wired : Netted Wiring
   placed_is : placement_of f s l ≡ Ok placement
   network_is : network_of f placement l ≡ Ok network
-  wired_is : wiring_of f s.layers l network.nets network.room ≡ Ok wired
+  wired_is : wiring_of f s.layers l network.nets network.quota ≡ Ok wired
   same : gathering name s l placement network wired ≡ g
 
 behind_parts : (f : Forest) (name : List ℕ) (s : Structure) (l : Library) (g : Gathered) → behind_library f name s l ≡ Ok g → Behind f name s l g
@@ -299,7 +275,7 @@ behind_parts f name s l g e =
     let d = bind_ok (placement_of f s l) _ g e in
     let h = bind_ok (network_of f d.0 l) _ g d.2 in
     let w = bind_ok (wired_of f s l h.0) _ g h.2 in
-    let k = bind_ok (wiring_of f s.layers l h.0.nets h.0.room) _ w.0 w.1 in
+    let k = bind_ok (wiring_of f s.layers l h.0.nets h.0.quota) _ w.0 w.1 in
     let m = bind_ok (known_vias l.names s h.0.classes) _ w.0 k.2 in
     let last : with_wired name s l d.0 h.0 w.0 ≡ g = ok_is w.2 in
     let own : record { nets = k.0.nets; numbers = classes_of h.0; wiring = k.0.it } ≡ w.0 = ok_is m.2 in
@@ -312,7 +288,7 @@ fit_sections f name s l g se le x =
     let has = placement_found f s l x.placement x.placed_is in
     let fit = placement_fit f s l x.placement (fit_shapes (length s.layers) l library) has in
     let network = network_of_fit f x.placement l x.network x.network_is in
-    let laid = wiring_found f s.layers l x.network.nets x.network.room x.wired network.few x.wired_is in
+    let laid = wiring_found f s.layers l x.network.nets x.network.quota x.wired network.few x.wired_is in
     let all = structure.points in
     let taken = has.2.sites.taken.points in
     record {
@@ -324,24 +300,8 @@ fit_sections f name s l g se le x =
       points = omega (arith, all, taken);
       network = network;
       more_nets = subst (λ (xs : List (List ℕ)). length x.network.nets ≤ length xs) (sym laid.2.nets_are) (long_with (collect used_in (wiring_in f)) x.network.nets);
-      wiring = wiring_of_fit f s.layers l x.network.nets x.network.room x.wired library network.few x.wired_is;
+      wiring = wiring_of_fit f s.layers l x.network.nets x.network.quota x.wired library network.few x.wired_is;
     }
-
-sections_sound : (f : Forest) (g : Gathered) → 32 * size f < 2 ^ 32 → sections_of f ≡ Ok g → IsSound (assembled g)
-unfolding sections_of
-sections_sound f g small e =
-    let a = bind_ok (design_of f) _ g e in
-    let b = bind_ok (structure_of f) _ g a.2 in
-    let c = bind_ok (library_of f b.0.layers) _ g b.2 in
-    let x = behind_parts f a.0.name b.0 c.0 g c.2 in
-    subst (λ (y : Gathered). IsSound (assembled y)) x.same (fit_gathering a.0.name b.0 c.0 x.placement x.network x.wired (32 * size f) small (fit_sections f a.0.name b.0 c.0 g b.1 c.1 x))
-
--- the design that the lists and words of a text state is sound, where they aren't too many
-pub parts_sound : (f : Forest) (p : Parts) → size f ≤ 67108864 → parts_of f ≡ Ok p → IsSound p
-unfolding parts_of
-parts_sound f p small e =
-    let a = bind_ok (sections_of f) _ p e in
-    subst IsSound (ok_is {x = assembled a.0} a.2) (sections_sound f a.0 (omega (arith, small)) a.1)
 
 abbrev HasFew : Gathered → Type 0
 HasFew g = length (assembled g).items ≤ 200000
@@ -352,29 +312,29 @@ few_behind f name s l g se x =
     let has = placement_found f s l x.placement x.placed_is in
     let network = network_of_fit f x.placement l x.network x.network_is in
     let connected = network_found f x.placement l x.network x.network_is in
-    let laid = wiring_found f s.layers l x.network.nets x.network.room x.wired network.few x.wired_is in
+    let laid = wiring_found f s.layers l x.network.nets x.network.quota x.wired network.few x.wired_is in
     let whole = ap length (loaded_are x.network.pins s.keeps x.placement.parts x.wired.it.items) in
     let front = length-append s.keeps (map (item_of x.network.pins) x.placement.parts ++ x.wired.it.items) in
     let back = length-append (map (item_of x.network.pins) x.placement.parts) x.wired.it.items in
     let parts = length-map x.placement.parts (item_of x.network.pins) in
     let first = structure.items in
     let second = has.2.sites.taken.items in
-    let third = ap (λ (room : Room). room.items) connected.2.room in
+    let third = ap (λ (quota : Quota). quota.items) connected.2.quota in
     let last = laid.2.few_items in
     omega (arith, whole, front, back, parts, first, second, third, last)
 
-sections_few : (f : Forest) (g : Gathered) → sections_of f ≡ Ok g → HasFew g
+sections_sound : (f : Forest) (g : Gathered) → 32 * size f < 2 ^ 32 → sections_of f ≡ Ok g → IsSound (assembled g)
 unfolding sections_of
-sections_few f g e =
+sections_sound f g small e =
     let a = bind_ok (design_of f) _ g e in
     let b = bind_ok (structure_of f) _ g a.2 in
     let c = bind_ok (library_of f b.0.layers) _ g b.2 in
     let x = behind_parts f a.0.name b.0 c.0 g c.2 in
-    subst HasFew x.same (few_behind f a.0.name b.0 c.0 g b.1 x)
+    subst (λ (y : Gathered). IsSound (assembled y)) x.same (fit_gathering a.0.name b.0 c.0 x.placement x.network x.wired (32 * size f) small (fit_sections f a.0.name b.0 c.0 g b.1 c.1 x) (few_behind f a.0.name b.0 c.0 g b.1 x))
 
--- the design that the lists and words of a text state has at most 200,000 loaded items
-pub parts_few : (f : Forest) (p : Parts) → parts_of f ≡ Ok p → length p.items ≤ 200000
+-- the design that the lists and words of a text state is sound, where they aren't too many
+pub parts_sound : (f : Forest) (p : Parts) → size f ≤ 67108864 → parts_of f ≡ Ok p → IsSound p
 unfolding parts_of
-parts_few f p e =
+parts_sound f p small e =
     let a = bind_ok (sections_of f) _ p e in
-    subst (λ (q : Parts). length q.items ≤ 200000) (ok_is {x = assembled a.0} a.2) (sections_few f a.0 a.1)
+    subst IsSound (ok_is {x = assembled a.0} a.2) (sections_sound f a.0 (omega (arith, small)) a.1)

@@ -11,11 +11,12 @@ use Rattle.dsn_lists.specs.Names.{place_of}
 use Rattle.dsn_lists.specs.Layers.{one_of, one_layer}
 use Rattle.dsn_lists.specs.Shapes.{path_of}
 use Rattle.dsn_lists.specs.Lists.{told}
+use Rattle.dsn_lists.specs.ShapeLists.{PathFault}
 use Rattle.dsn_lists.proofs.Firsts.{made, ok_is, bind_ok, bind_err, word_fault, word_fault_again}
+use Rattle.dsn_lists.proofs.PathLaws.{path_found, path_again, path_fault, path_fault_again}
 use Rattle.dsn_reader.specs.declared.wires.Track.{Track}
 use Rattle.dsn_reader.specs.Wirings.{track_of}
-use Rattle.dsn_reader.specs.TrackLists.{PathFault, IsTrack, NamesLayer, TrackFault}
-use Rattle.dsn_reader.proofs.PathLaws.{path_found, path_again, path_fault, path_fault_again}
+use Rattle.dsn_reader.specs.TrackLists.{IsTrack, NamesLayer, TrackFault}
 
 -- ---- paths on a layer
 

@@ -12,7 +12,7 @@ use Rattle.dsn_lists.specs.Names.{is_among}
 use Rattle.dsn_lists.specs.Lists.{told}
 use Rattle.dsn_lists.proofs.Firsts.{failed}
 use Rattle.dsn_structure.specs.declared.structure.Structure.{Structure}
-use Rattle.dsn_library.specs.declared.classes.Class.{Class}
+use Rattle.dsn_network.specs.declared.classes.Class.{Class}
 use Rattle.dsn_reader.specs.Assembly.{lesser, least_of, least_unknown, least_in_lists, least_in_classes, unless_unknown, known_vias}
 use Rattle.dsn_reader.specs.Rows.{joined_lists, via_names, AreKnown, UnknownAt, IsLeastUnknown, ViaNameFault}
 

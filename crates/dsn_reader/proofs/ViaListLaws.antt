@@ -18,7 +18,7 @@ use Rattle.dsn_reader.specs.declared.wiring.Wiring.{Wiring}
 use Rattle.dsn_reader.specs.Wirings.{Netted, known_stack, via_of}
 use Rattle.dsn_reader.specs.EndLists.{names_in}
 use Rattle.dsn_reader.specs.ViaLists.{PlacedFault, ViaFault}
-use Rattle.dsn_reader.proofs.NetLaws.{Grows}
+use Rattle.dsn_lists.proofs.Growing.{Grows}
 use Rattle.dsn_reader.proofs.PlacedLaws.{behind_stack, ArePlaced, placed_found, placed_again, placed_fault, placed_fault_again}
 
 -- ---- a list of vias

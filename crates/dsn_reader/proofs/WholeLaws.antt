@@ -10,35 +10,32 @@ use Rattle.dsn_lists.specs.declared.pcb.Section.TheVariants as sections
 use Rattle.dsn_lists.specs.declared.pcb.Title.{Title}
 use Rattle.dsn_lists.specs.declared.faults.ReadWhy.{ReadWhy}
 use Rattle.dsn_lists.specs.declared.faults.ReadWhy.TheVariants.{Fault, Memory}
-use Rattle.dsn_lists.specs.Results.{Read, Fails, wrong, ◌>>=◌}
-use Rattle.dsn_lists.specs.Lists.{told}
-use Rattle.dsn_lists.specs.Pcbs.{Spot, design_of, section_in}
-use Rattle.dsn_lists.specs.Titles.{IsTitle, TitleFault}
+use Rattle.dsn_lists.specs.Results.{Read, Fails, ◌>>=◌}
+use Rattle.dsn_lists.specs.Pcbs.{design_of}
+use Rattle.dsn_lists.specs.Titles.{IsTitle}
 use Rattle.dsn_lists.proofs.Bounds.{ok_is, err_gives}
 use Rattle.dsn_lists.proofs.Firsts.{bind_ok, bind_err}
 use Rattle.dsn_lists.proofs.TitleLaws.{title_found, title_again, title_why, why_title}
 use Rattle.dsn_structure.specs.declared.structure.Structure.{Structure}
 use Rattle.dsn_structure.specs.Structures.{structure_of}
-use Rattle.dsn_structure.specs.Meaning.{HasStructure, StructureFault}
+use Rattle.dsn_structure.specs.Meaning.{HasStructure}
 use Rattle.dsn_structure.proofs.Whole.{has_found, has_again, why_found, why_again}
 use Rattle.dsn_library.specs.declared.library.Library.{Library}
-use Rattle.dsn_library.specs.declared.network.Network.{Network}
-use Rattle.dsn_library.specs.declared.placement.Placement.{Placement}
+use Rattle.dsn_network.specs.declared.network.Network.{Network}
+use Rattle.dsn_placement.specs.declared.placement.Placement.{Placement}
 use Rattle.dsn_library.specs.Libraries.{library_of}
-use Rattle.dsn_library.specs.Components.{placement_of}
-use Rattle.dsn_library.specs.Networks.{network_of}
+use Rattle.dsn_placement.specs.Components.{placement_of}
+use Rattle.dsn_network.specs.Networks.{network_of}
 use Rattle.dsn_reader.specs.declared.wiring.Wiring.{Wiring}
 use Rattle.dsn_reader.specs.Wirings.{Netted, wiring_of}
 use Rattle.dsn_reader.specs.Assembly.{Gathered, Wired, known_vias, classes_of, assembled, wired_of, behind_library, sections_of, parts_of}
-use Rattle.dsn_reader.specs.Rows.{via_names, AreKnown, ViaNameFault, laid_out}
+use Rattle.dsn_reader.specs.Rows.{laid_out}
 use Rattle.dsn_reader.specs.Whole.{gathering, States, FaultBehindNetwork, FaultBehindPlacement, FaultBehindLibrary, FaultBehindStructure, ListFault}
-use Rattle.dsn_library.specs.LibraryMeaning.{HasLibrary, LibraryFault}
-use Rattle.dsn_library.specs.NetworkMeaning.{HasNetwork, NetworkFault}
-use Rattle.dsn_library.proofs.NetworkSound.{network_of_fit}
-use Rattle.dsn_library.proofs.PlacementWhole.{has_found as placement_found, has_again as placement_again, why_found as placement_why, why_again as why_placement}
+use Rattle.dsn_network.proofs.NetworkSound.{network_of_fit}
+use Rattle.dsn_network.proofs.NetClasses.{classes_found, classes_again}
+use Rattle.dsn_placement.proofs.PlacementWhole.{has_found as placement_found, has_again as placement_again, why_found as placement_why, why_again as why_placement}
 use Rattle.dsn_library.proofs.LibraryWhole.{has_found as library_found, has_again as library_again, why_found as library_why, why_again as why_library}
-use Rattle.dsn_library.proofs.NetworkWhole.{has_found as network_found, has_again as network_again, why_found as network_why, why_again as why_network}
-use Rattle.dsn_reader.specs.Meaning.{HasWiring, WiringFault}
+use Rattle.dsn_network.proofs.NetworkWhole.{has_found as network_found, has_again as network_again, why_found as network_why, why_again as why_network}
 use Rattle.dsn_reader.proofs.Whole.{has_found as wiring_found, has_again as wiring_again, why_found as wiring_why, why_again as why_wiring}
 use Rattle.dsn_reader.proofs.UnknownLaws.{vias_known, known_again, unknown_found, unknown_again}
 use Rattle.dsn_reader.proofs.AssemblyLaws.{assembled_is}
@@ -58,7 +55,7 @@ record Behind (f : Forest) (name : List ℕ) (s : Structure) (l : Library) (g : 
   wired : Netted Wiring
   placed : placement_of f s l ≡ Ok placement
   connected : network_of f placement l ≡ Ok network
-  laid : wiring_of f s.layers l network.nets network.room ≡ Ok wired
+  laid : wiring_of f s.layers l network.nets network.quota ≡ Ok wired
   known : known_vias l.names s network.classes ≡ Ok tt
   same : record { name = name; structure = s; library = l; placement = placement; classes = network.classes; pins = network.pins; numbers = classes_of network; nets = wired.nets; wiring = wired.it } ≡ g
 
@@ -71,7 +68,7 @@ behind_found f name s l g e =
     let d = bind_ok (placement_of f s l) _ g e in
     let h = bind_ok (network_of f d.0 l) _ g d.2 in
     let w = bind_ok (wired_of f s l h.0) _ g h.2 in
-    let k = bind_ok (wiring_of f s.layers l h.0.nets h.0.room) _ w.0 w.1 in
+    let k = bind_ok (wiring_of f s.layers l h.0.nets h.0.quota) _ w.0 w.1 in
     let m = bind_ok (known_vias l.names s h.0.classes) _ w.0 k.2 in
     let last : with_wired name s l d.0 h.0 w.0 ≡ g = ok_is w.2 in
     let own : record { nets = k.0.nets; numbers = classes_of h.0; wiring = k.0.it } ≡ w.0 = ok_is m.2 in
@@ -95,30 +92,33 @@ states_found f p e =
     let c = bind_ok (library_of f b.0.layers) _ g.0 b.2 in
     let x = behind_found f a.0.name b.0 c.0 g.0 c.2 in
     let is : assembled g.0 ≡ p = ok_is g.2 in
+    let connected = network_found f x.placement c.0 x.network x.connected in
     record {
       title = a.0;
       structure = b.0;
       library = c.0;
       placement = x.placement;
       network = x.network;
+      numbers = classes_of x.network;
       wired = x.wired;
       titled = title_found f a.0 a.1;
       structured = has_found f b.0 b.1;
       stocked = library_found f b.0.layers c.0 c.1;
       placed = placement_found f b.0 c.0 x.placement x.placed;
-      connected = network_found f x.placement c.0 x.network x.connected;
-      laid = wiring_found f b.0.layers c.0 x.network.nets x.network.room x.wired (network_of_fit f x.placement c.0 x.network x.connected).few x.laid;
+      connected = connected;
+      classed = classes_found x.network.classes x.network.nets connected.2.fresh;
+      laid = wiring_found f b.0.layers c.0 x.network.nets x.network.quota x.wired (network_of_fit f x.placement c.0 x.network x.connected).few x.laid;
       known = vias_known c.0.names b.0 x.network.classes x.known;
       is = sym is ∙ assembled_is g.0 ∙ ap laid_out (sym x.same);
     }
 
-wired_again : (f : Forest) (s : Structure) (l : Library) (n : Network) (w : Netted Wiring) → wiring_of f s.layers l n.nets n.room ≡ Ok w → known_vias l.names s n.classes ≡ Ok tt
+wired_again : (f : Forest) (s : Structure) (l : Library) (n : Network) (w : Netted Wiring) → wiring_of f s.layers l n.nets n.quota ≡ Ok w → known_vias l.names s n.classes ≡ Ok tt
     → wired_of f s l n ≡ Ok (record { nets = w.nets; numbers = classes_of n; wiring = w.it })
 unfolding wired_of
 wired_again f s l n w laid known = rw (laid, known) refl
 
 behind_again : (f : Forest) (t : Title) (s : Structure) (l : Library) (p : Placement) (n : Network) (w : Netted Wiring) → placement_of f s l ≡ Ok p → network_of f p l ≡ Ok n
-    → wired_of f s l n ≡ Ok (record { nets = w.nets; numbers = classes_of n; wiring = w.it }) → behind_library f t.name s l ≡ Ok (gathering t s l p n w)
+    → wired_of f s l n ≡ Ok (record { nets = w.nets; numbers = classes_of n; wiring = w.it }) → behind_library f t.name s l ≡ Ok (gathering t s l p n (classes_of n) w)
 unfolding behind_library
 behind_again f t s l p n w placed connected laid = rw (placed, connected, laid) refl
 
@@ -129,10 +129,15 @@ sections_again f t s l g titled structured stocked rest = rw (titled, structured
 pub states_again : (f : Forest) (p : Parts) → States f p → parts_of f ≡ Ok p
 unfolding parts_of
 states_again f p h =
-    let laid = wired_again f h.structure h.library h.network h.wired (wiring_again f h.structure.layers h.library h.network.nets h.network.room h.wired h.laid) (known_again h.library.names h.structure h.network.classes h.known) in
+    let laid = wired_again f h.structure h.library h.network h.wired (wiring_again f h.structure.layers h.library h.network.nets h.network.quota h.wired h.laid) (known_again h.library.names h.structure h.network.classes h.known) in
     let rest = behind_again f h.title h.structure h.library h.placement h.network h.wired (placement_again f h.structure h.library h.placement h.placed) (network_again f h.placement h.library h.network h.connected) laid in
-    let all = sections_again f h.title h.structure h.library (gathering h.title h.structure h.library h.placement h.network h.wired) (title_again f h.title h.titled) (has_again f h.structure h.structured) (library_again f h.structure.layers h.library h.stocked) rest in
-    rw all (ap (λ (q : Parts). Ok q) (assembled_is (gathering h.title h.structure h.library h.placement h.network h.wired) ∙ sym h.is))
+    let all = sections_again f h.title h.structure h.library (gathering h.title h.structure h.library h.placement h.network (classes_of h.network) h.wired) (title_again f h.title h.titled) (has_again f h.structure h.structured) (library_again f h.structure.layers h.library h.stocked) rest in
+    let numbers = classes_again h.network.classes h.network.nets h.numbers h.connected.2.fresh h.classed in
+    let is : assembled (gathering h.title h.structure h.library h.placement h.network (classes_of h.network) h.wired) ≡ p =
+    assembled_is (gathering h.title h.structure h.library h.placement h.network (classes_of h.network) h.wired)
+    ∙ ap (λ (ks : List ℕ). laid_out (gathering h.title h.structure h.library h.placement h.network ks h.wired)) (sym numbers) ∙ sym h.is
+    in
+    rw all (ap (λ (q : Parts). Ok q) is)
 
 -- ---- the first fault
 
@@ -147,9 +152,9 @@ unknown_in r x e h = wired_in r (λ _. x) e h
 wired_why : (f : Forest) (s : Structure) (l : Library) (n : Network) (e : DesignFault) → length n.nets ≤ 100000 → wired_of f s l n ≡ Err e → FaultBehindNetwork f s l n e
 unfolding wired_of
 wired_why f s l n e few h =
-    elim (bind_err (wiring_of f s.layers l n.nets n.room) (λ w. known_vias l.names s n.classes >>= λ _. Ok (record { nets = w.nets; numbers = classes_of n; wiring = w.it })) e h) [
-      | inl here ↦ inl (wiring_why f s.layers l n.nets n.room e few here)
-      | inr later ↦ inr (later.0, wiring_found f s.layers l n.nets n.room later.0 few later.1, unknown_found l.names s n.classes e (unknown_in (known_vias l.names s n.classes) (record { nets = later.0.nets; numbers = classes_of n; wiring = later.0.it }) e later.2))
+    elim (bind_err (wiring_of f s.layers l n.nets n.quota) (λ w. known_vias l.names s n.classes >>= λ _. Ok (record { nets = w.nets; numbers = classes_of n; wiring = w.it })) e h) [
+      | inl here ↦ inl (wiring_why f s.layers l n.nets n.quota e few here)
+      | inr later ↦ inr (later.0, wiring_found f s.layers l n.nets n.quota later.0 few later.1, unknown_found l.names s n.classes e (unknown_in (known_vias l.names s n.classes) (record { nets = later.0.nets; numbers = classes_of n; wiring = later.0.it }) e later.2))
     ]
 
 network_behind : (f : Forest) (t : Title) (s : Structure) (l : Library) (p : Placement) (e : DesignFault) → (network_of f p l >>= λ n. (wired_of f s l n >>= λ w. Ok (with_wired t.name s l p n w))) ≡ Err e → FaultBehindPlacement f s l p e
@@ -201,8 +206,8 @@ list_fault_found f e h =
 
 wired_fault : (f : Forest) (s : Structure) (l : Library) (n : Network) (e : DesignFault) → FaultBehindNetwork f s l n e → wired_of f s l n ≡ Err e
 unfolding wired_of
-wired_fault f s l n e (inl here) = rw (why_wiring f s.layers l n.nets n.room e here) refl
-wired_fault f s l n e (inr later) = rw (wiring_again f s.layers l n.nets n.room later.0 later.1, unknown_again l.names s n.classes e later.2) refl
+wired_fault f s l n e (inl here) = rw (why_wiring f s.layers l n.nets n.quota e here) refl
+wired_fault f s l n e (inr later) = rw (wiring_again f s.layers l n.nets n.quota later.0 later.1, unknown_again l.names s n.classes e later.2) refl
 
 behind_fault : (f : Forest) (name : List ℕ) (s : Structure) (l : Library) (e : DesignFault) → FaultBehindLibrary f s l e → behind_library f name s l ≡ Err e
 unfolding behind_library

@@ -15,10 +15,10 @@ use Rattle.dsn_reader.specs.declared.wires.Draft.{Draft}
 use Rattle.dsn_reader.specs.declared.wiring.Wiring.{Wiring}
 use Rattle.dsn_reader.specs.Wirings.{Netted, netted, wire_item, no_draft, wire_with, as_wire, wire_of, is_fixed}
 use Rattle.dsn_reader.specs.EndLists.{with_names, names_in}
-use Rattle.dsn_reader.specs.WireLists.{IsDraft, IsWire, NoRoomFor, WholeWireFault, WireFault}
-use Rattle.dsn_reader.proofs.NetLaws.{Grows}
+use Rattle.dsn_reader.specs.WireLists.{IsDraft, IsWire, NoQuotaFor, WholeWireFault, WireFault}
+use Rattle.dsn_lists.proofs.Growing.{Grows}
 use Rattle.dsn_reader.proofs.DraftLaws.{lists_found, lists_later, lists_again, lists_fault, lists_fault_again}
-use Rattle.dsn_reader.proofs.RoomLaws.{IsPut, put_found, put_again, put_fault, put_fault_again}
+use Rattle.dsn_reader.proofs.QuotaLaws.{IsPut, put_found, put_again, put_fault, put_fault_again}
 
 -- ---- a wire
 
@@ -66,13 +66,13 @@ whole_fault at w d e h = by d.track d.ends.net refl refl h
     by (Some t) None a b h = inl (inr b, cc)
     by (Some t) (Some n) a b h =
         let full = put_fault at w (wire_made t n d.ends.fix) (length t.points) e h in
-        inr (some_on d.ends.net n b, subst (NoRoomFor w) (sym a) full.0, full.1)
+        inr (some_on d.ends.net n b, subst (NoQuotaFor w) (sym a) full.0, full.1)
 
 whole_fault_again : (at : ℕ) (w : Wiring) (d : Draft) (e : DesignFault) → WholeWireFault w at d e → as_wire at w d ≡ Err e
 unfolding as_wire
 whole_fault_again at w d e h = by d.track d.ends.net h
   where
-    by : (o : Option Track) (p : Option ℕ) → ((((o ≡ None) ⊎ (p ≡ None)) × (e ≡ told kind.Missing at)) ⊎ ((is_some p ≡ true) × NoRoomFor w o × (e ≡ told kind.Large at))) → wire_with at w o p d.ends.fix ≡ Err e
+    by : (o : Option Track) (p : Option ℕ) → ((((o ≡ None) ⊎ (p ≡ None)) × (e ≡ told kind.Missing at)) ⊎ ((is_some p ≡ true) × NoQuotaFor w o × (e ≡ told kind.Large at))) → wire_with at w o p d.ends.fix ≡ Err e
     by None p (inl h) = ap failed (sym h.1)
     by None p (inr h) = absurd h.1
     by (Some t) None (inl h) = ap failed (sym h.1)

@@ -22,7 +22,7 @@ use Rattle.dsn_reader.specs.Wirings.{Netted, netted, track_of, path_once, wire_w
 use Rattle.dsn_reader.specs.TrackLists.{IsTrack}
 use Rattle.dsn_reader.specs.EndLists.{IsNet, IsType}
 use Rattle.dsn_reader.specs.WireLists.{MayStand, path_args, OfWireFault}
-use Rattle.dsn_reader.proofs.NetLaws.{Grows}
+use Rattle.dsn_lists.proofs.Growing.{Grows}
 use Rattle.dsn_reader.proofs.TrackLaws.{track_found, track_again, track_fault, track_fault_again}
 use Rattle.dsn_reader.proofs.OnceLaws.{Behind, behind_stay, behind_none, behind_new, behind_one}
 use Rattle.dsn_reader.proofs.EndListLaws.{IsStep, step_found, step_again, step_fault, step_fault_again}

@@ -16,16 +16,16 @@ use Rattle.dsn_lists.specs.Pcbs.{design_of}
 use Rattle.dsn_structure.specs.declared.structure.Structure.{Structure}
 use Rattle.dsn_structure.specs.Structures.{structure_of}
 use Rattle.dsn_library.specs.declared.library.Library.{Library}
-use Rattle.dsn_library.specs.declared.classes.Class.{Class}
-use Rattle.dsn_library.specs.declared.network.Network.{Network}
+use Rattle.dsn_network.specs.declared.classes.Class.{Class}
+use Rattle.dsn_network.specs.declared.network.Network.{Network}
 use Rattle.dsn_library.specs.Libraries.{library_of}
-use Rattle.dsn_library.specs.Components.{placement_of}
-use Rattle.dsn_library.specs.declared.placement.Placed.{Placed}
-use Rattle.dsn_library.specs.declared.placement.Placed.TheVariants as placed
-use Rattle.dsn_library.specs.declared.placement.Placement.{Placement}
-use Rattle.dsn_library.specs.References.{net_at}
-use Rattle.dsn_library.specs.Networks.{network_of, classed}
-use Rattle.dsn_reader.specs.declared.reader.Stated.{Stated}
+use Rattle.dsn_placement.specs.Components.{placement_of}
+use Rattle.dsn_placement.specs.declared.placement.PlacedPart.{PlacedPart}
+use Rattle.dsn_placement.specs.declared.placement.PlacedPart.TheVariants as placed
+use Rattle.dsn_placement.specs.declared.placement.Placement.{Placement}
+use Rattle.dsn_network.specs.References.{net_at}
+use Rattle.dsn_network.specs.Networks.{network_of, classed}
+use Rattle.dsn_reader.specs.declared.reader.Sections.{Sections}
 use Rattle.dsn_reader.specs.declared.reader.Laid.{Laid}
 use Rattle.dsn_reader.specs.declared.wiring.Wiring.{Wiring}
 use Rattle.dsn_reader.specs.Wirings.{wiring_of}
@@ -113,19 +113,14 @@ classes_of n = classed n.nets 1 (replicate (length n.nets) 0) n.classes
 -- ---- items
 
 -- the pad with the net of its pin, or the keepout
-abbrev pub item_of : List ((ℕ × ℕ) × ℕ) → Placed → Item
+abbrev pub item_of : List ((ℕ × ℕ) × ℕ) → PlacedPart → Item
 item_of pins (placed.Pad component pin ss) = items.Pad (net_at pins (component, pin)) ss
 item_of pins (placed.Keep k ss) = items.Keep k ss
 
 -- the pads and keepouts of components, behind others
-unfoldable pub with_placed : List ((ℕ × ℕ) × ℕ) → List Item → List Placed → List Item
+unfoldable pub with_placed : List ((ℕ × ℕ) × ℕ) → List Item → List PlacedPart → List Item
 with_placed pins is [] = is
 with_placed pins is (x ∷ xs) = with_placed pins (is ++ item_of pins x ∷ []) xs
-
--- items, behind others
-unfoldable pub with_items : List Item → List Item → List Item
-with_items is [] = is
-with_items is (x ∷ xs) = with_items (is ++ x ∷ []) xs
 
 -- ---- the design
 
@@ -141,7 +136,7 @@ pub record Gathered : Type 0 where
   pub nets : List (List ℕ)
   pub wiring : Wiring
 
-abbrev pub gathered : Stated → Gathered
+abbrev pub gathered : Sections → Gathered
 gathered s = record {
   name = s.title.name;
   structure = s.structure;
@@ -154,18 +149,25 @@ gathered s = record {
   wiring = s.wiring;
 }
 
--- the rows of a design that are made of what its sections state
+-- the rows of a design that are copies of what its sections state
 abbrev pub rows_of : Gathered → Laid
 rows_of g = record {
   layers = g.structure.layers;
   nets = net_rows (length g.nets) g.nets g.numbers;
   classes = all_classes g.library.names g.structure g.classes;
-  items = with_items (with_placed g.pins (with_items [] g.structure.keeps) g.placement.parts) g.wiring.items;
 }
 
--- the design with these rows
+-- the design with these rows and the items of its sections
 abbrev pub with_rows : Gathered → Laid → Parts
-with_rows g x = record { name = g.name; layers = x.layers; stacks = g.library.stacks; nets = x.nets; classes = x.classes; outline = g.structure.outline; items = x.items }
+with_rows g x = record {
+  name = g.name;
+  layers = x.layers;
+  stacks = g.library.stacks;
+  nets = x.nets;
+  classes = x.classes;
+  outline = g.structure.outline;
+  items = with_placed g.pins g.structure.keeps g.placement.parts ++ g.wiring.items;
+}
 
 abbrev pub assembled : Gathered → Parts
 assembled g = with_rows g (rows_of g)
@@ -182,7 +184,7 @@ wired nets x = record { nets = nets; numbers = x.0.items; wiring = x.1 }
 -- what the wiring states, where each name in a list of vias is a padstack's
 unfoldable pub wired_of : Forest → Structure → Library → Network → Read Wired
 wired_of f s l n = do
-  w ← wiring_of f s.layers l n.nets n.room
+  w ← wiring_of f s.layers l n.nets n.quota
   _ ← known_vias l.names s n.classes
   Ok (record { nets = w.nets; numbers = classes_of n; wiring = w.it })
 

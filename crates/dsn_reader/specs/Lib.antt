@@ -9,3 +9,4 @@ pub mod ViaLists
 pub mod Meaning
 pub mod Whole
 pub mod Design
+pub mod Fronts

@@ -19,8 +19,8 @@ use Rattle.dsn_lists.specs.Pcbs.{section_in}
 use Rattle.dsn_lists.specs.Lists.{collect, told, IsFirst}
 use Rattle.dsn_lists.specs.Measures.{IsUnitList, UnitListFault, governing_unit}
 use Rattle.dsn_lists.specs.Titles.{IsTitle, TitleFault}
-use Rattle.dsn_shapes.specs.declared.rooms.Room.{Room}
-use Rattle.dsn_shapes.specs.RoomLists.{points_of_shapes}
+use Rattle.dsn_shapes.specs.declared.quotas.Quota.{Quota}
+use Rattle.dsn_shapes.specs.QuotaLists.{points_of_shapes}
 use Rattle.dsn_library.specs.declared.library.Library.{Library}
 use Rattle.dsn_reader.specs.declared.wiring.Wiring.{Wiring}
 use Rattle.dsn_reader.specs.declared.wiring.WiringWord.{WiringWord}
@@ -68,13 +68,13 @@ points_of_item stacks _ = 0
 
 -- Lists of the section, with lengths in this unit, and what they stand for. A net that isn't one of these is put behind them
 -- in the order of first use, and there are at most 100,000. The items are those of the lists in order. They and their points,
--- with those that may still come, are the room that there was.
-pub record IsWiring (u : LengthUnit) (layers : List (List ℕ)) (l : Library) (nets : List (List ℕ)) (room : Room) (f : Forest) (x : Netted Wiring) : Type 0 where
+-- with those that may still come, are the quota that there was.
+pub record IsWiring (u : LengthUnit) (layers : List (List ℕ)) (l : Library) (nets : List (List ℕ)) (quota : Quota) (f : Forest) (x : Netted Wiring) : Type 0 where
   pub nets_are : x.nets ≡ with_names nets (collect used_in f)
   pub few_nets : length x.nets ≤ 100000
   pub items_are : HaveItems u layers l x.nets f x.it.items
-  pub few_items : length x.it.items + x.it.room.items ≡ room.items
-  pub few_points : sum_by (points_of_item l.stacks) x.it.items + x.it.room.points ≡ room.points
+  pub few_items : length x.it.items + x.it.quota.items ≡ quota.items
+  pub few_points : sum_by (points_of_item l.stacks) x.it.items + x.it.quota.points ≡ quota.points
 
 -- ---- the first fault
 
@@ -87,13 +87,13 @@ OfWiringFault u layers l x at h words.Resolution e = e ≡ told kind.Unit h.at
 OfWiringFault u layers l x at h words.Other e = ⊥
 
 -- the fault of a list of the section, behind others
-abbrev pub WiringListFault : LengthUnit → List (List ℕ) → Library → List (List ℕ) → Room → Forest → ℕ → Forest → DesignFault → Type 0
-WiringListFault u layers l nets room before at inside e =
-    (x : Netted Wiring) × IsWiring u layers l nets room before x × OfWiringFault u layers l x at (head_of inside) (wiring_word (head_of inside).text) e
+abbrev pub WiringListFault : LengthUnit → List (List ℕ) → Library → List (List ℕ) → Quota → Forest → ℕ → Forest → DesignFault → Type 0
+WiringListFault u layers l nets quota before at inside e =
+    (x : Netted Wiring) × IsWiring u layers l nets quota before x × OfWiringFault u layers l x at (head_of inside) (wiring_word (head_of inside).text) e
 
 -- the first fault of a section: that of its lists
-abbrev pub IsFirstFault : LengthUnit → List (List ℕ) → Library → List (List ℕ) → Room → Forest → DesignFault → Type 0
-IsFirstFault u layers l nets room f e = IsFirst (λ f. (x : Netted Wiring) × IsWiring u layers l nets room f x) (WiringListFault u layers l nets room) f e
+abbrev pub IsFirstFault : LengthUnit → List (List ℕ) → Library → List (List ℕ) → Quota → Forest → DesignFault → Type 0
+IsFirstFault u layers l nets quota f e = IsFirst (λ f. (x : Netted Wiring) × IsWiring u layers l nets quota f x) (WiringListFault u layers l nets quota) f e
 
 -- ---- the wiring of a design
 
@@ -101,15 +101,15 @@ IsFirstFault u layers l nets room f e = IsFirst (λ f. (x : Netted Wiring) × Is
 abbrev pub section : Forest → Forest
 section f = (section_in sections.Wiring f).args
 
--- the design is one with this wiring, behind these nets and with this room
-abbrev pub HasWiring : Forest → List (List ℕ) → Library → List (List ℕ) → Room → Netted Wiring → Type 0
-HasWiring f layers l nets room x = (t : Title) × IsTitle f t × IsWiring (governing_unit t.unit (section f)) layers l nets room (section f) x
+-- the design is one with this wiring, behind these nets and with this quota
+abbrev pub HasWiring : Forest → List (List ℕ) → Library → List (List ℕ) → Quota → Netted Wiring → Type 0
+HasWiring f layers l nets quota x = (t : Title) × IsTitle f t × IsWiring (governing_unit t.unit (section f)) layers l nets quota (section f) x
 
 -- the first fault of a design up to its wiring: that of the design apart from its sections, else that of the section
-abbrev pub WiringFault : Forest → List (List ℕ) → Library → List (List ℕ) → Room → DesignFault → Type 0
-WiringFault f layers l nets room e = TitleFault f e ⊎ ((t : Title) × IsTitle f t × IsFirstFault (governing_unit t.unit (section f)) layers l nets room (section f) e)
+abbrev pub WiringFault : Forest → List (List ℕ) → Library → List (List ℕ) → Quota → DesignFault → Type 0
+WiringFault f layers l nets quota e = TitleFault f e ⊎ ((t : Title) × IsTitle f t × IsFirstFault (governing_unit t.unit (section f)) layers l nets quota (section f) e)
 
 -- why no wiring is read: the first fault, or memory ran out
-abbrev pub WhyNot : Forest → List (List ℕ) → Library → List (List ℕ) → Room → ReadWhy → Type 0
-WhyNot f layers l nets room Memory = Unit {0}
-WhyNot f layers l nets room (Fault e) = WiringFault f layers l nets room e
+abbrev pub WhyNot : Forest → List (List ℕ) → Library → List (List ℕ) → Quota → ReadWhy → Type 0
+WhyNot f layers l nets quota Memory = Unit {0}
+WhyNot f layers l nets quota (Fault e) = WiringFault f layers l nets quota e

@@ -13,7 +13,7 @@ use Rattle.dsn_lists.specs.declared.rules.Rule.{Rule}
 use Rattle.dsn_lists.specs.Names.{is_among, place_of}
 use Rattle.dsn_lists.specs.Lists.{last_of}
 use Rattle.dsn_structure.specs.declared.structure.Structure.{Structure}
-use Rattle.dsn_library.specs.declared.classes.Class.{Class}
+use Rattle.dsn_network.specs.declared.classes.Class.{Class}
 use Rattle.dsn_reader.specs.Assembly.{Gathered, item_of}
 
 -- ---- names of padstacks

@@ -1,6 +1,6 @@
 -- What a list of vias is, and what is wrong with a list that is none.
 -- Models: the via descriptor in the wiring of the SPECCTRA reference.
-use Rattle.std.specs.Prelude.{◌≡◌, ℕ, ℤ, Bool, ◌⊎◌, true, List, [], ◌∷◌, map, slice_get, Option, Some, None, is_some}
+use Rattle.std.specs.Prelude.{◌≡◌, ℕ, ◌≤◌, ◌<◌, Bool, ◌⊎◌, true, false, List, [], ◌∷◌, map, length, slice_get, Option, Some, None, is_some}
 use Rattle.std.specs.List.{AllByRecursion}
 use Rattle.sexp_text.specs.Forest.{Forest}
 use Rattle.sexp_text.specs.declared.units.Unit.{Unit as LengthUnit}
@@ -13,16 +13,17 @@ use Rattle.board_items.specs.declared.items.Item.TheVariants as items
 use Rattle.board_items.specs.Shapes.{shapes_of}
 use Rattle.dsn_lists.specs.declared.faults.DesignFault.{DesignFault}
 use Rattle.dsn_lists.specs.declared.faults.DesignKind.TheVariants as kind
+use Rattle.dsn_lists.specs.declared.marks.Mark.{Mark}
 use Rattle.dsn_lists.specs.Names.{place_of}
 use Rattle.dsn_lists.specs.Lists.{told}
 use Rattle.dsn_lists.specs.ShortLists.{HasWord, NoWordOr, first_words, behind_words}
-use Rattle.dsn_shapes.specs.declared.rooms.Room.{Room}
-use Rattle.dsn_shapes.specs.RoomLists.{points_of_shapes, IsTaken, NoRoom}
+use Rattle.dsn_lists.specs.PointWords.{AllLengths, ArePoints, LengthsFault, are_even}
+use Rattle.dsn_shapes.specs.declared.quotas.Quota.{Quota}
+use Rattle.dsn_shapes.specs.QuotaLists.{points_of_shapes, IsTaken, NoQuota}
 use Rattle.dsn_library.specs.declared.library.Library.{Library}
 use Rattle.dsn_reader.specs.declared.ends.Ends.{Ends}
 use Rattle.dsn_reader.specs.declared.wiring.Wiring.{Wiring}
 use Rattle.dsn_reader.specs.Wirings.{Netted, is_fixed}
-use Rattle.dsn_reader.specs.TrackLists.{StateLengths, LengthsFault, StatePoints, NoPoints}
 use Rattle.dsn_reader.specs.EndLists.{AreEnds, HasEnds, EndsFault}
 
 -- ---- vias
@@ -36,7 +37,8 @@ pub record AreViasOf (u : LengthUnit) (nets : List (List ℕ)) (shapes : List Sh
   pub points : List Pt
   pub net : ℕ
   pub fix : Option Bool
-  pub pairs : StatePoints u 1 (first_words f) points
+  pub pairs : ArePoints u (first_words f) points
+  pub some : 1 ≤ length points
   pub ends : AreEnds nets (behind_words f) (record { net = Some net; fix = fix })
   pub near : AllByRecursion (IsNear shapes) points
   pub are : is ≡ map (λ p. items.Via net stack p (is_fixed fix)) points
@@ -46,26 +48,31 @@ abbrev pub AreVias : LengthUnit → Library → List (List ℕ) → Forest → L
 AreVias u l nets f is = HasWord (λ text rest. (stack : ℕ) × (place_of l.names text ≡ Some stack) × AreViasOf u nets (shapes_of (slice_get l.stacks stack)) stack rest is) f
 
 -- the fault of the first via that is out of range or for which there is no room
-abbrev pub PointFault : List Shape → ℕ → Room → List Pt → DesignFault → Type 0
-PointFault shapes at room [] e = ⊥
-PointFault shapes at room (p ∷ ps) e =
+abbrev pub PointFault : List Shape → ℕ → Quota → List Pt → DesignFault → Type 0
+PointFault shapes at quota [] e = ⊥
+PointFault shapes at quota (p ∷ ps) e =
     ((IsNear shapes p → ⊥) × (e ≡ told kind.Range at))
-    ⊎ ((IsNear shapes p × NoRoom room (points_of_shapes shapes) × (e ≡ told kind.Large at))
-    ⊎ (IsNear shapes p × (left : Room) × IsTaken room (points_of_shapes shapes) left × PointFault shapes at left ps e))
+    ⊎ ((IsNear shapes p × NoQuota quota (points_of_shapes shapes) × (e ≡ told kind.Large at))
+    ⊎ (IsNear shapes p × (left : Quota) × IsTaken quota (points_of_shapes shapes) left × PointFault shapes at left ps e))
 
--- what is wrong behind the words of a via whose lists state this: its points, its net, or one of the vias
+-- so many coordinates are no points, or none at all
+abbrev pub AreNoPlaces : List Mark → Type 0
+AreNoPlaces words = (are_even words ≡ false) ⊎ (length words < 2)
+
+-- what is wrong behind the words of a via, which state lengths, and whose lists state this: its points, its net, or one of
+-- the vias
 abbrev pub WholeViaFault : LengthUnit → List Shape → Wiring → ℕ → Forest → Ends → DesignFault → Type 0
 WholeViaFault u shapes w at f x e =
-    (NoPoints u 1 (first_words f) × (e ≡ told kind.Points at))
-    ⊎ ((ps : List Pt) × StatePoints u 1 (first_words f) ps
-    × (((x.net ≡ None) × (e ≡ told kind.Missing at)) ⊎ ((is_some x.net ≡ true) × PointFault shapes at w.room ps e)))
+    (AreNoPlaces (first_words f) × (e ≡ told kind.Points at))
+    ⊎ ((ps : List Pt) × ArePoints u (first_words f) ps × (1 ≤ length ps)
+    × (((x.net ≡ None) × (e ≡ told kind.Missing at)) ⊎ ((is_some x.net ≡ true) × PointFault shapes at w.quota ps e)))
 
--- the fault behind the padstack of a via
+-- the fault behind the padstack of a via: of a coordinate, then of a list, then what is wrong with them together
 abbrev pub PlacedFault : LengthUnit → List Shape → Netted Wiring → ℕ → Forest → DesignFault → Type 0
 PlacedFault u shapes x at f e =
     LengthsFault u (first_words f) e
-    ⊎ ((((zs : List ℤ) × StateLengths u (first_words f) zs) × EndsFault x.nets (behind_words f) e)
-    ⊎ ((y : Netted Ends) × HasEnds x.nets (behind_words f) y × WholeViaFault u shapes x.it at f y.it e))
+    ⊎ (AllLengths u (first_words f)
+    × (EndsFault x.nets (behind_words f) e ⊎ ((y : Netted Ends) × HasEnds x.nets (behind_words f) y × WholeViaFault u shapes x.it at f y.it e)))
 
 -- the fault of a list of vias that begins at this byte, behind wiring
 abbrev pub ViaFault : LengthUnit → Library → Netted Wiring → ℕ → Forest → DesignFault → Type 0

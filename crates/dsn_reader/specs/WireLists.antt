@@ -10,7 +10,7 @@ use Rattle.dsn_lists.specs.declared.faults.DesignFault.{DesignFault}
 use Rattle.dsn_lists.specs.declared.faults.DesignKind.TheVariants as kind
 use Rattle.dsn_lists.specs.Words.{Heading, head_of}
 use Rattle.dsn_lists.specs.Lists.{collect, Every, told, IsFirst}
-use Rattle.dsn_shapes.specs.RoomLists.{NoRoom}
+use Rattle.dsn_shapes.specs.QuotaLists.{NoQuota}
 use Rattle.dsn_reader.specs.declared.wires.Track.{Track}
 use Rattle.dsn_reader.specs.declared.wires.Draft.{Draft}
 use Rattle.dsn_reader.specs.declared.wires.WireWord.{WireWord}
@@ -80,13 +80,13 @@ abbrev pub IsLacking : Draft → Type 0
 IsLacking d = (d.track ≡ None) ⊎ (d.ends.net ≡ None)
 
 -- there is no room for a wire of this path
-abbrev pub NoRoomFor : Wiring → Option Track → Type 0
-NoRoomFor w None = ⊥
-NoRoomFor w (Some t) = NoRoom w.room (length t.points)
+abbrev pub NoQuotaFor : Wiring → Option Track → Type 0
+NoQuotaFor w None = ⊥
+NoQuotaFor w (Some t) = NoQuota w.quota (length t.points)
 
 -- what is wrong with the lists of a wire, all of which can stand: what is missing, or that there is no room; told at its byte
 abbrev pub WholeWireFault : Wiring → ℕ → Draft → DesignFault → Type 0
-WholeWireFault w at d e = (IsLacking d × (e ≡ told kind.Missing at)) ⊎ ((is_some d.ends.net ≡ true) × NoRoomFor w d.track × (e ≡ told kind.Large at))
+WholeWireFault w at d e = (IsLacking d × (e ≡ told kind.Missing at)) ⊎ ((is_some d.ends.net ≡ true) × NoQuotaFor w d.track × (e ≡ told kind.Large at))
 
 -- the fault of a wire that begins at this byte, behind wiring: of its first list that has one, else of its lists together
 abbrev pub WireFault : LengthUnit → List (List ℕ) → Netted Wiring → ℕ → Forest → DesignFault → Type 0

@@ -23,8 +23,8 @@ use Rattle.dsn_lists.specs.Places.{no_coordinates, coordinates}
 use Rattle.dsn_lists.specs.Layers.{one_layer}
 use Rattle.dsn_lists.specs.Shapes.{path_of}
 use Rattle.dsn_lists.specs.Pcbs.{Spot, design_of, section_in}
-use Rattle.dsn_shapes.specs.declared.rooms.Room.{Room}
-use Rattle.dsn_shapes.specs.Rooms.{room_for, room_behind}
+use Rattle.dsn_shapes.specs.declared.quotas.Quota.{Quota}
+use Rattle.dsn_shapes.specs.Quotas.{quota_for, quota_behind}
 use Rattle.dsn_library.specs.declared.library.Library.{Library}
 use Rattle.dsn_reader.specs.declared.ends.Ends.{Ends}
 use Rattle.dsn_reader.specs.declared.ends.EndWord.{EndWord}
@@ -107,12 +107,12 @@ abbrev pub is_fixed : Option Bool → Bool
 is_fixed None = false
 is_fixed (Some fix) = fix
 
--- ---- room
+-- ---- quota
 
--- one more item behind those that are there, and this room behind it
-abbrev pub with_item : ℕ → Wiring → Item → Option Room → Read Wiring
+-- one more item behind those that are there, and this quota behind it
+abbrev pub with_item : ℕ → Wiring → Item → Option Quota → Read Wiring
 with_item at w item None = wrong kind.Large at
-with_item at w item (Some room) = Ok (record { items = w.items ++ item ∷ []; room = room })
+with_item at w item (Some quota) = Ok (record { items = w.items ++ item ∷ []; quota = quota })
 
 -- ---- wires
 
@@ -160,7 +160,7 @@ no_draft = record { ends = no_ends; track = None }
 
 -- a wire has a path and a net
 abbrev pub wire_with : ℕ → Wiring → Option Track → Option ℕ → Option Bool → Read Wiring
-wire_with at w (Some t) (Some net) fix = with_item at w (items.Wire net t.layer t.width t.points (is_fixed fix)) (room_for w.room (length t.points))
+wire_with at w (Some t) (Some net) fix = with_item at w (items.Wire net t.layer t.width t.points (is_fixed fix)) (quota_for w.quota (length t.points))
 wire_with at w (Some t) None fix = wrong kind.Missing at
 wire_with at w None net fix = wrong kind.Missing at
 
@@ -206,7 +206,7 @@ sorted s = record { net = s.net; stack = s.stack; shapes = s.shapes.now; fix = s
 
 -- one more via at a point
 unfoldable pub via_at : ℕ → Kindred → Wiring → Pt → Read Wiring
-via_at at v w p = if are_near p v.shapes then with_item at w (items.Via v.net v.stack p v.fix) (room_behind w.room v.shapes) else wrong kind.Range at
+via_at at v w p = if are_near p v.shapes then with_item at w (items.Via v.net v.stack p v.fix) (quota_behind w.quota v.shapes) else wrong kind.Range at
 
 -- a via at each point
 unfoldable pub vias_at : ℕ → Kindred → Wiring → List Pt → Read Wiring
@@ -258,14 +258,14 @@ wiring_list u layers l x at h words.Other = Ok x
 unfoldable pub wiring_item : LengthUnit → List (List ℕ) → Library → Netted Wiring → ℕ → Forest → Read (Netted Wiring)
 wiring_item u layers l x at inside = wiring_list u layers l x at (head_of inside) (wiring_word (head_of inside).text)
 
--- no item, and this room
-abbrev pub no_wiring : Room → Wiring
-no_wiring room = record { items = []; room = room }
+-- no item, and this quota
+abbrev pub no_wiring : Quota → Wiring
+no_wiring quota = record { items = []; quota = quota }
 
--- the section at its place, where this unit governs the design, behind nets of these names and with this room
-unfoldable pub wiring_at : LengthUnit → List (List ℕ) → Library → List (List ℕ) → Room → Spot → Read (Netted Wiring)
-wiring_at u layers l nets room p = each (wiring_item (governing u p.args) layers l) (netted nets (no_wiring room)) p.args
+-- the section at its place, where this unit governs the design, behind nets of these names and with this quota
+unfoldable pub wiring_at : LengthUnit → List (List ℕ) → Library → List (List ℕ) → Quota → Spot → Read (Netted Wiring)
+wiring_at u layers l nets quota p = each (wiring_item (governing u p.args) layers l) (netted nets (no_wiring quota)) p.args
 
 -- the wiring of a design, and its nets
-unfoldable pub wiring_of : Forest → List (List ℕ) → Library → List (List ℕ) → Room → Read (Netted Wiring)
-wiring_of f layers l nets room = design_of f >>= λ t. wiring_at t.unit layers l nets room (section_in sections.Wiring f)
+unfoldable pub wiring_of : Forest → List (List ℕ) → Library → List (List ℕ) → Quota → Read (Netted Wiring)
+wiring_of f layers l nets quota = design_of f >>= λ t. wiring_at t.unit layers l nets quota (section_in sections.Wiring f)

@@ -2,15 +2,15 @@
 ghost use Rattle.std.specs.Prelude.{◌≡◌, ◌≤◌, ◌<◌, ◌^◌, true, [], length, Some, None, Err, is_ok, IfOk, IfErr, OnOk};
 ghost use Rattle.dsn_lists.specs.declared.faults.DesignFault.{DesignFault};
 ghost use Rattle.dsn_lists.specs.Results.{Tells};
-ghost use Rattle.dsn_library.specs.Networks.{in_class, named_in, classed};
+ghost use Rattle.dsn_network.specs.Networks.{in_class, named_in, classed};
 ghost use Rattle.std.specs.Option.{option_copied};
 ghost use Rattle.dsn_lists.specs.Names.{place_of};
 ghost use Rattle.dsn_reader.specs.Assembly.{lesser, least_of, least_unknown, least_in_lists, least_in_classes, known_vias, with_number, numbers_of, last_vias, class_row, class_rows, all_classes, row_at, net_rows, classes_of};
 ghost use Rattle.dsn_reader.specs.Rows.{via_names, AreKnown, ViaNameFault};
 
 use board_rules::{ClassRow, ClassRows, Names, NetRow, NetRows};
-use dsn_library::{Class, Network, ViaLists};
 use dsn_lists::{DesignFault, DesignKind, Mark, Marks, NameSet, Rule, fault};
+use dsn_network::{Class, Network, ViaLists};
 use dsn_structure::Structure;
 use layout_io::Name;
 use row_lists::Row;
@@ -201,7 +201,7 @@ fn name_net(nets: &NameSet, class: u32, classes: &mut [u32], mark: &Mark)
     }
 }
 
-#[tactic(auto, unfolding(dsn_library::specs::Networks::named_in))]
+#[tactic(auto, unfolding(dsn_network::specs::Networks::named_in))]
 fn name_nets(nets: &NameSet, class: u32, classes: &mut [u32], marks: &[Mark])
     requires { length classes.old ≡ length nets.now }
     ensures named { classes.new ≡ named_in nets.now class classes.old marks.now }
@@ -212,7 +212,7 @@ fn name_nets(nets: &NameSet, class: u32, classes: &mut [u32], marks: &[Mark])
     }
 }
 
-#[tactic(auto, unfolding(dsn_library::specs::Networks::classed))]
+#[tactic(auto, unfolding(dsn_network::specs::Networks::classed))]
 fn name_all(nets: &NameSet, numbers: &mut [u32], classes: &[Class])
     requires same { length numbers.old ≡ length nets.now }
     requires few { length classes.now < 2 ^ 32 }

@@ -3,16 +3,15 @@ ghost use Rattle.std.specs.Prelude.{◌≡◌, ◌≤◌, ◌<◌, length, IfOk,
 ghost use Rattle.sexp_text.specs.Shows.{forest};
 ghost use Rattle.dsn_lists.specs.Results.{Tells, Gives, each};
 ghost use Rattle.dsn_lists.specs.Words.{marked};
+ghost use Rattle.dsn_reader.specs.Fronts.{IsFront};
 ghost use Rattle.dsn_reader.specs.Wirings.{netted, net_number, type_named, type_list, net_list, type_once, end_word, end_item, no_ends, is_fixed};
 
 use dsn_lists::{
-    DesignFault, DesignKind, Found, NameSet, ReadWhy, fault, is_word, only_word, opening,
-    read_over, word_at,
+    DesignFault, DesignKind, Found, NameSet, ReadWhy, fault, is_word, next_list, only_word,
+    opening, read_over, refused, word_at,
 };
-use sexp_text::{Cursor, Part, front};
-
-/// How many nets a design may have.
-const NETS: usize = 100_000;
+use row_lists::NET_LIMIT;
+use sexp_text::Cursor;
 
 /// The number of the net of wiring, and whether its type is `fix`, where they are stated.
 #[derive(Clone, Copy, Debug)]
@@ -30,18 +29,19 @@ enum EndWord {
 }
 
 // The number of a net, which is put behind the others where it isn't there.
-#[tactic(auto, unfolding(crate::specs::Wirings::net_number))]
+#[tactic(auto, unfolding(crate::specs::Wirings::net_number), using(crate::proofs::Fronts::front_same, crate::proofs::Fronts::front_one))]
 fn number_of(nets: &mut NameSet, word: Found<'_>) -> Result<u32, ReadWhy>
     requires { length nets.old ≤ 100000 }
     ensures number { Gives (λ n. netted nets.new n) result (net_number nets.old (marked word.entry)) }
     ensures few { length nets.new ≤ 100000 }
+    ensures kept { IsFront nets.old nets.new }
 {
     if let Some(number) = nets.place(word.text) {
         return Ok(number as u32);
     }
     let number = nets.len();
-    if number >= NETS {
-        return Err(ReadWhy::from(fault(DesignKind::Large, word.at)));
+    if number >= NET_LIMIT {
+        return Err(refused(DesignKind::Large, word.at));
     }
     nets.add(word.text)?;
     Ok(number as u32)
@@ -80,14 +80,15 @@ fn type_at(at: u32, args: Cursor<'_>) -> Result<bool, DesignFault>
     }
 }
 
-#[tactic(auto, unfolding(crate::specs::Wirings::net_list))]
+#[tactic(auto, unfolding(crate::specs::Wirings::net_list), using(crate::proofs::Fronts::front_same))]
 fn read_net(nets: &mut NameSet, ends: Ends, at: u32, args: Cursor<'_>) -> Result<Ends, ReadWhy>
     requires { length nets.old ≤ 100000 }
     ensures ends { Gives (λ e. netted nets.new e) result (net_list nets.old ends at (forest args.entry)) }
     ensures few { length nets.new ≤ 100000 }
+    ensures kept { IsFront nets.old nets.new }
 {
     if ends.net.is_some() {
-        return Err(ReadWhy::from(fault(DesignKind::Form, at)));
+        return Err(refused(DesignKind::Form, at));
     }
     let word = only_word(at, args)?;
     let number = number_of(nets, word)?;
@@ -125,7 +126,7 @@ fn end_word(text: &[u8]) -> EndWord
 }
 
 /// Reads a list of wiring that states its net or its type, or reads it over.
-#[tactic(auto, unfolding(crate::specs::Wirings::end_item))]
+#[tactic(auto, unfolding(crate::specs::Wirings::end_item), using(crate::proofs::Fronts::front_same))]
 pub fn read_end(
     nets: &mut NameSet,
     ends: Ends,
@@ -135,6 +136,7 @@ pub fn read_end(
     requires { length nets.old ≤ 100000 }
     ensures ends { Gives (λ e. netted nets.new e) result (end_item (netted nets.old ends) at (forest inside.entry)) }
     ensures few { length nets.new ≤ 100000 }
+    ensures kept { IsFront nets.old nets.new }
 {
     let head = opening(inside);
     match end_word(head.text) {
@@ -145,31 +147,23 @@ pub fn read_end(
 }
 
 /// Reads the lists behind the words of a via.
-#[tactic(auto, unfolding(dsn_lists::specs::Results::each))]
+#[tactic(auto, unfolding(dsn_lists::specs::Results::each), using(crate::proofs::Fronts::front_same, crate::proofs::Fronts::front_then))]
 pub fn read_ends(nets: &mut NameSet, list: Cursor<'_>) -> Result<Ends, ReadWhy>
     requires { length nets.old ≤ 100000 }
     ensures ends { Gives (λ e. netted nets.new e) result (each end_item (netted nets.old no_ends) (forest list.entry)) }
     ensures few { length nets.new ≤ 100000 }
+    ensures kept { IsFront nets.old nets.new }
 {
     let mut ends = Ends {
         net: None,
         fix: None,
     };
     let mut rest = list;
-    'lists: loop {
-        match front(rest) {
-            Part::End => return Ok(ends),
-            Part::Word { at, .. } => return Err(ReadWhy::from(fault(DesignKind::Form, at))),
-            Part::List {
-                at,
-                inside,
-                rest: after,
-            } => {
-                ends = read_end(nets, ends, at, inside)?;
-                rest = after;
-            }
-        }
+    'lists: while let Some((at, inside, after)) = next_list(rest)? {
+        ends = read_end(nets, ends, at, inside)?;
+        rest = after;
     }
+    Ok(ends)
 }
 
 impl Ends {

@@ -2,22 +2,23 @@
 ghost use Rattle.std.specs.Prelude.{◌≡◌, ◌≤◌, ◌<◌, length, IfOk, slice_get, ℤ, ◌+ℤ◌};
 ghost use Rattle.std.specs.List.{list_all};
 ghost use Rattle.sexp_text.specs.Shows.{forest};
-ghost use Rattle.area_geometry.specs.Copper.{core_points};
 ghost use Rattle.board_items.specs.Shapes.{shapes_of};
 ghost use Rattle.dsn_lists.specs.Results.{Tells, Gives, each};
 ghost use Rattle.dsn_lists.specs.Names.{place_of};
 ghost use Rattle.dsn_lists.specs.Words.{marked};
+ghost use Rattle.dsn_reader.specs.Fronts.{IsFront};
 ghost use Rattle.dsn_reader.specs.Wirings.{netted, known_stack, is_near, is_point_near, is_shape_near, are_near, sorted, via_at, vias_at, as_points, some_net, via_of};
 
 use crate::ends::{Ends, read_ends};
 use crate::wiring::{Wiring, put_item};
-use area_geometry::{Core, Shape};
+use area_geometry::{Shape, points_of};
 use board_items::{Item, Padstack};
 use dsn_library::Library;
 use dsn_lists::{
-    Coordinates, DesignFault, DesignKind, Found, NameSet, ReadWhy, coordinates_at, fault, word_at,
+    Coordinates, DesignFault, DesignKind, Found, NameSet, ReadWhy, coordinates_at, fault, refused,
+    word_at,
 };
-use dsn_shapes::room_behind;
+use dsn_shapes::quota_behind;
 use seg_geometry::{Points, Pt};
 use sexp_text::{Cursor, Unit};
 use std::alloc::Global;
@@ -58,15 +59,6 @@ fn is_point_near(p: Pt, q: &Pt) -> bool
     is_near(q.x, p.x) && is_near(q.y, p.y)
 }
 
-fn points_of(core: &Core) -> &[Pt]
-    ensures { result.now ≡ core_points core.now }
-{
-    match core {
-        Core::Chain(points) => points.as_slice(),
-        Core::Area(points) => points.as_slice(),
-    }
-}
-
 // Whether all points of a shape, moved by `p`, are in range.
 fn is_shape_near(p: Pt, shape: &Shape) -> bool
     ensures { result ≡ is_shape_near p shape.now }
@@ -86,16 +78,16 @@ fn put_via(wiring: &mut Wiring, at: u32, sort: Sort<'_>, p: Pt) -> Result<(), Re
     ensures { Gives (λ _. wiring.new) result (via_at at (sorted sort.entry) wiring.old p) }
 {
     if !are_near(p, sort.shapes) {
-        return Err(ReadWhy::from(fault(DesignKind::Range, at)));
+        return Err(refused(DesignKind::Range, at));
     }
-    let room = room_behind(wiring.room, sort.shapes);
+    let quota = quota_behind(wiring.quota, sort.shapes);
     let item = Item::Via {
         net: sort.net,
         padstack: sort.stack,
         at: p,
         fix: sort.fix,
     };
-    put_item(wiring, at, item, room)
+    put_item(wiring, at, item, quota)
 }
 
 // Puts a via at each point behind the wiring that is there.
@@ -138,7 +130,7 @@ fn shapes_at(stacks: &[Padstack], stack: usize) -> &[Shape]
 }
 
 /// Reads a via, whose list begins at this byte, behind the wiring that is there.
-#[tactic(auto, unfolding(crate::specs::Wirings::via_of))]
+#[tactic(auto, unfolding(crate::specs::Wirings::via_of), using(crate::proofs::Fronts::front_same))]
 pub fn read_via(
     alloc: Global,
     unit: Unit,
@@ -152,6 +144,7 @@ pub fn read_via(
     requires nets { length nets.old ≤ 100000 }
     ensures wiring { Gives (λ _. netted nets.new wiring.new) result (via_of unit library.now (netted nets.old wiring.old) at (forest args.entry)) }
     ensures few { length nets.new ≤ 100000 }
+    ensures kept { IsFront nets.old nets.new }
 {
     let (word, rest) = word_at(at, args)?;
     let stack = stack_at(&library.names, word)?;

@@ -2,17 +2,18 @@
 ghost use Rattle.std.specs.Prelude.{◌≡◌, ◌≤◌, length};
 ghost use Rattle.sexp_text.specs.Shows.{forest};
 ghost use Rattle.dsn_lists.specs.Results.{Gives, each};
+ghost use Rattle.dsn_reader.specs.Fronts.{IsFront};
 ghost use Rattle.dsn_reader.specs.Wirings.{netted, track_of, path_once, wire_word, ended_draft, wire_item, no_draft, as_wire, wire_of};
 
 use crate::ends::{Ends, read_end};
 use crate::wiring::{Wiring, put_item};
 use board_items::Item;
 use dsn_lists::{
-    DesignKind, NameSet, ReadWhy, fault, is_word, layer_at, opening, path_at, word_at,
+    DesignKind, NameSet, ReadWhy, is_word, layer_at, next_list, opening, path_at, refused, word_at,
 };
-use dsn_shapes::room_for;
+use dsn_shapes::quota_for;
 use seg_geometry::Points;
-use sexp_text::{Cursor, Part, Unit, front};
+use sexp_text::{Cursor, Unit};
 use std::alloc::Global;
 
 /// The layer of a wire from 0, its width and its points in nm.
@@ -74,7 +75,7 @@ fn read_path(
     ensures { Gives (λ x. x) result (path_once unit layers.now draft at (forest args.entry)) }
 {
     if draft.track.is_some() {
-        return Err(ReadWhy::from(fault(DesignKind::Form, at)));
+        return Err(refused(DesignKind::Form, at));
     }
     let track = track_at(alloc, unit, layers, at, args)?;
     Ok(Draft {
@@ -117,6 +118,7 @@ fn read_wire_end(
     requires { length nets.old ≤ 100000 }
     ensures draft { Gives (λ d. netted nets.new d) result (ended_draft nets.old draft at (forest inside.entry)) }
     ensures few { length nets.new ≤ 100000 }
+    ensures kept { IsFront nets.old nets.new }
 {
     let ends = read_end(nets, draft.ends, at, inside)?;
     Ok(Draft {
@@ -125,7 +127,7 @@ fn read_wire_end(
     })
 }
 
-#[tactic(auto, unfolding(crate::specs::Wirings::wire_item))]
+#[tactic(auto, unfolding(crate::specs::Wirings::wire_item), using(crate::proofs::Fronts::front_same))]
 fn read_list(
     alloc: Global,
     unit: Unit,
@@ -139,18 +141,19 @@ fn read_list(
     requires nets { length nets.old ≤ 100000 }
     ensures draft { Gives (λ d. netted nets.new d) result (wire_item unit layers.now (netted nets.old draft) at (forest inside.entry)) }
     ensures few { length nets.new ≤ 100000 }
+    ensures kept { IsFront nets.old nets.new }
 {
     let head = opening(inside);
     match wire_word(head.text) {
         WireWord::Path => read_path(alloc, unit, layers, draft, at, head.args),
-        WireWord::Shape => Err(ReadWhy::from(fault(DesignKind::Shape, head.at))),
-        WireWord::Arc => Err(ReadWhy::from(fault(DesignKind::Arc, head.at))),
-        WireWord::Polyline => Err(ReadWhy::from(fault(DesignKind::Polyline, head.at))),
+        WireWord::Shape => Err(refused(DesignKind::Shape, head.at)),
+        WireWord::Arc => Err(refused(DesignKind::Arc, head.at)),
+        WireWord::Polyline => Err(refused(DesignKind::Polyline, head.at)),
         WireWord::End => read_wire_end(nets, draft, at, inside),
     }
 }
 
-#[tactic(auto, unfolding(dsn_lists::specs::Results::each))]
+#[tactic(auto, unfolding(dsn_lists::specs::Results::each), using(crate::proofs::Fronts::front_same, crate::proofs::Fronts::front_then))]
 fn read_lists(
     alloc: Global,
     unit: Unit,
@@ -162,6 +165,7 @@ fn read_lists(
     requires nets { length nets.old ≤ 100000 }
     ensures draft { Gives (λ d. netted nets.new d) result (each (wire_item unit layers.now) (netted nets.old no_draft) (forest list.entry)) }
     ensures few { length nets.new ≤ 100000 }
+    ensures kept { IsFront nets.old nets.new }
 {
     let mut draft = Draft {
         ends: Ends {
@@ -171,20 +175,11 @@ fn read_lists(
         track: None,
     };
     let mut rest = list;
-    'lists: loop {
-        match front(rest) {
-            Part::End => return Ok(draft),
-            Part::Word { at, .. } => return Err(ReadWhy::from(fault(DesignKind::Form, at))),
-            Part::List {
-                at,
-                inside,
-                rest: after,
-            } => {
-                draft = read_list(alloc, unit, layers, nets, draft, at, inside)?;
-                rest = after;
-            }
-        }
+    'lists: while let Some((at, inside, after)) = next_list(rest)? {
+        draft = read_list(alloc, unit, layers, nets, draft, at, inside)?;
+        rest = after;
     }
+    Ok(draft)
 }
 
 // Puts the wire that the lists state behind the wiring that is there.
@@ -194,12 +189,12 @@ fn put_wire(wiring: &mut Wiring, at: u32, draft: Draft) -> Result<(), ReadWhy>
 {
     let Draft { ends, track } = draft;
     let Some(track) = track else {
-        return Err(ReadWhy::from(fault(DesignKind::Missing, at)));
+        return Err(refused(DesignKind::Missing, at));
     };
     let Some(net) = ends.net else {
-        return Err(ReadWhy::from(fault(DesignKind::Missing, at)));
+        return Err(refused(DesignKind::Missing, at));
     };
-    let room = room_for(wiring.room, track.points.len());
+    let quota = quota_for(wiring.quota, track.points.len());
     let item = Item::Wire {
         net,
         layer: track.layer,
@@ -207,7 +202,7 @@ fn put_wire(wiring: &mut Wiring, at: u32, draft: Draft) -> Result<(), ReadWhy>
         points: track.points,
         fix: ends.is_fixed(),
     };
-    put_item(wiring, at, item, room)
+    put_item(wiring, at, item, quota)
 }
 
 /// Reads a wire, whose list begins at this byte, behind the wiring that is there.
@@ -225,6 +220,7 @@ pub fn read_wire(
     requires nets { length nets.old ≤ 100000 }
     ensures wiring { Gives (λ _. netted nets.new wiring.new) result (wire_of unit layers.now (netted nets.old wiring.old) at (forest args.entry)) }
     ensures few { length nets.new ≤ 100000 }
+    ensures kept { IsFront nets.old nets.new }
 {
     let draft = read_lists(alloc, unit, layers, nets, args)?;
     put_wire(wiring, at, draft)

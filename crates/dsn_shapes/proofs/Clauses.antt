@@ -8,14 +8,14 @@ use Rattle.dsn_lists.specs.declared.faults.ReadWhy.{ReadWhy}
 use Rattle.dsn_lists.specs.declared.faults.ReadWhy.TheVariants.{Fault, Memory}
 use Rattle.dsn_lists.specs.Results.{Read, Fails, Gives}
 use Rattle.dsn_lists.specs.Lists.{collect}
-use Rattle.dsn_shapes.specs.declared.rooms.Room.{Room}
+use Rattle.dsn_shapes.specs.declared.quotas.Quota.{Quota}
 use Rattle.dsn_shapes.specs.Ahead.{names_ahead}
 use Rattle.dsn_shapes.specs.NameLists.{each_once, first_of}
-use Rattle.dsn_shapes.specs.Rooms.{room_behind}
-use Rattle.dsn_shapes.specs.RoomLists.{points_of_shapes, IsTaken, NoRoom}
+use Rattle.dsn_shapes.specs.Quotas.{quota_behind}
+use Rattle.dsn_shapes.specs.QuotaLists.{points_of_shapes, IsTaken, NoQuota}
 use Rattle.dsn_shapes.specs.Whys.{IsWhy}
 use Rattle.dsn_shapes.proofs.NameLaws.{ahead_is}
-use Rattle.dsn_shapes.proofs.RoomLaws.{room_behind_is, room_found, room_again, room_fault}
+use Rattle.dsn_shapes.proofs.QuotaLaws.{quota_behind_is, quota_found, quota_again, quota_fault}
 
 -- ---- over any reading
 
@@ -34,18 +34,18 @@ if_fault view (Err why) read HasFault given fault = why_is why read HasFault giv
 pub as_read : {X Y : Type 0} (view : X → Y) (r : Result X ReadWhy) (read other : Read Y) → Gives view r read → read ≡ other → Gives view r other
 as_read view r read other given same = subst (λ (x : Read _). Gives view r x) same given
 
--- ---- room
+-- ---- quota
 
-pub room_if_found : (room : Room) (ss : List Shape) (r : Option Room) → r ≡ room_behind room ss → IfSome r (IsTaken room (points_of_shapes ss))
-room_if_found room ss (Some left) e = room_found room left (points_of_shapes ss) (sym (room_behind_is room ss) ∙ sym e)
-room_if_found room ss None e = tt
+pub quota_if_found : (quota : Quota) (ss : List Shape) (r : Option Quota) → r ≡ quota_behind quota ss → IfSome r (IsTaken quota (points_of_shapes ss))
+quota_if_found quota ss (Some left) e = quota_found quota left (points_of_shapes ss) (sym (quota_behind_is quota ss) ∙ sym e)
+quota_if_found quota ss None e = tt
 
-pub room_if_none : (room : Room) (ss : List Shape) (r : Option Room) → r ≡ room_behind room ss → IfNone r (NoRoom room (points_of_shapes ss))
-room_if_none room ss (Some left) e = tt
-room_if_none room ss None e = room_fault room (points_of_shapes ss) (sym (room_behind_is room ss) ∙ sym e)
+pub quota_if_none : (quota : Quota) (ss : List Shape) (r : Option Quota) → r ≡ quota_behind quota ss → IfNone r (NoQuota quota (points_of_shapes ss))
+quota_if_none quota ss (Some left) e = tt
+quota_if_none quota ss None e = quota_fault quota (points_of_shapes ss) (sym (quota_behind_is quota ss) ∙ sym e)
 
-pub room_if_taken : (room left : Room) (ss : List Shape) (r : Option Room) → r ≡ room_behind room ss → IsTaken room (points_of_shapes ss) left → r ≡ Some left
-room_if_taken room left ss r e h = e ∙ room_behind_is room ss ∙ room_again room left (points_of_shapes ss) h
+pub quota_if_taken : (quota left : Quota) (ss : List Shape) (r : Option Quota) → r ≡ quota_behind quota ss → IsTaken quota (points_of_shapes ss) left → r ≡ Some left
+quota_if_taken quota left ss r e h = e ∙ quota_behind_is quota ss ∙ quota_again quota left (points_of_shapes ss) h
 
 -- ---- names ahead
 

@@ -22,7 +22,8 @@ use Rattle.dsn_shapes.specs.declared.drawn.ShapeWord.{ShapeWord}
 use Rattle.dsn_shapes.specs.declared.drawn.ShapeWord.TheVariants as shapes
 use Rattle.dsn_shapes.specs.Rings.{ring_of, rect_of}
 use Rattle.dsn_shapes.specs.Drawn.{shape_on, on_each, on_layers, shape_word, circles, paths, rects, polygons, shape_list, shape_item, shapes_of}
-use Rattle.dsn_shapes.specs.Limits.{HasCore, IsFitDrawn, AreFitDrawn}
+use Rattle.board_rules.specs.Designs.{HasCore, IsFitShape}
+use Rattle.dsn_shapes.specs.Limits.{AreFitDrawn}
 use Rattle.dsn_shapes.proofs.RingFits.{ring_of_fit, rect_of_fit}
 
 -- ---- on layers
@@ -33,18 +34,18 @@ record IsFitCore (core : Core) (width : ℕ) : Type 0 where
   some : HasCore core
   wide : width ≤ 100000000
 
-drawn_on : (count layer : ℕ) (core : Core) (width : ℕ) → layer < count → IsFitCore core width → IsFitDrawn count (shape_on layer core width)
-drawn_on count layer core width l fit = record { fit = record { layer = l; points = fit.points; width = fit.wide }; core = fit.some }
+drawn_on : (count layer : ℕ) (core : Core) (width : ℕ) → layer < count → IsFitCore core width → IsFitShape count (shape_on layer core width)
+drawn_on count layer core width l fit = record { layer = l; core = fit.some; points = fit.points; width = fit.wide }
 
 fit_each : (n count : ℕ) (core : Core) (width : ℕ) → n ≤ count → IsFitCore core width → AreFitDrawn count (on_each n core width)
 unfolding on_each
 fit_each zero count core width low fit = tt
 fit_each (suc n) count core width low fit =
-    all_push (IsFitDrawn count) (on_each n core width) (shape_on n core width)
+    all_push (IsFitShape count) (on_each n core width) (shape_on n core width)
     (fit_each n count core width (omega (arith, low)) fit)
     (drawn_on count n core width (omega (arith, low)) fit)
 
-fit_if : (count : ℕ) (b : Bool) (s : Shape) → IsFitDrawn count s → AreFitDrawn count (if b then s ∷ [] else [])
+fit_if : (count : ℕ) (b : Bool) (s : Shape) → IsFitShape count s → AreFitDrawn count (if b then s ∷ [] else [])
 fit_if count true s p = (p, tt)
 fit_if count false s p = tt
 
@@ -123,7 +124,7 @@ shape_parts u layers ss at inside y e =
 pub shape_item_fit : (u : LengthUnit) (layers : List (List ℕ)) (ss : List Shape) (at : ℕ) (inside : Forest) (y : List Shape) → AreFitDrawn (length layers) ss → shape_item u layers ss at inside ≡ Ok y → AreFitDrawn (length layers) y
 shape_item_fit u layers ss at inside y p e =
     let s = shape_parts u layers ss at inside y e in
-    subst (AreFitDrawn (length layers)) s.3 (all_append (IsFitDrawn (length layers)) ss s.1 p (fit_shape_list u layers at s.0.0 s.0.1 (shape_word s.0.0.name) s.1 s.2))
+    subst (AreFitDrawn (length layers)) s.3 (all_append (IsFitShape (length layers)) ss s.1 p (fit_shape_list u layers at s.0.0 s.0.1 (shape_word s.0.0.name) s.1 s.2))
 
 -- behind shapes within the limits, the shapes of more lists are so too
 pub shapes_of_fit : (u : LengthUnit) (layers : List (List ℕ)) (ss : List Shape) (at : ℕ) (f : Forest) (y : List Shape) → AreFitDrawn (length layers) ss → shapes_of u layers ss at f ≡ Ok y → AreFitDrawn (length layers) y

@@ -1,5 +1,5 @@
 pub mod Clauses
-pub mod RoomLaws
+pub mod QuotaLaws
 pub mod NameLaws
 pub mod RectLaws
 pub mod OpenedLaws

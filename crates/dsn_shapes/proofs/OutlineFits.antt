@@ -14,7 +14,8 @@ use Rattle.dsn_shapes.specs.declared.drawn.ShapeWord.TheVariants as shapes
 use Rattle.dsn_shapes.specs.Rings.{ring_of, rect_of}
 use Rattle.dsn_shapes.specs.Drawn.{shape_word}
 use Rattle.dsn_shapes.specs.Outlines.{outline_layer, rect_outline, ring_outline, outline_list, outline_of, outline_item, outlines_of}
-use Rattle.dsn_shapes.specs.Limits.{IsFitArea, AreFitAreas}
+use Rattle.board_rules.specs.Designs.{IsFitArea}
+use Rattle.dsn_shapes.specs.Limits.{AreFitAreas}
 use Rattle.dsn_shapes.proofs.RingFits.{ring_of_fit, opened_rect_fit}
 
 fit_rect_outline : (u : LengthUnit) (at : ℕ) (f : Forest) (y : List Pt) → rect_outline u at f ≡ Ok y → IsFitArea y

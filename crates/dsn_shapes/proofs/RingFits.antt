@@ -12,11 +12,16 @@ use Rattle.dsn_lists.specs.Words.{word_of}
 use Rattle.dsn_lists.specs.Numbers.{length_word, width_word}
 use Rattle.dsn_lists.specs.Places.{point, no_coordinates, coordinates}
 use Rattle.dsn_lists.specs.Shapes.{trail, point_of}
-use Rattle.dsn_lists.specs.Limits.{AreInRange}
+use Rattle.dsn_lists.proofs.Ranges.{AreInRange}
 use Rattle.dsn_lists.proofs.Bounds.{ok_is, bind_ok, else_ok, length_word_bound, width_word_bound, coordinates_bound, no_coordinates_fit}
 use Rattle.dsn_shapes.specs.declared.rings.Ring.{Ring}
 use Rattle.dsn_shapes.specs.Rings.{is_closed, opened, as_ring, ring_of, corner_of, corners, rect_of}
-use Rattle.dsn_shapes.specs.Limits.{IsFitArea, IsFitRing}
+use Rattle.board_rules.specs.Designs.{IsFitArea}
+
+-- a ring of a width within the limits, by three points or more
+pub record IsFitRing (r : Ring) : Type 0 where
+  pub width : r.width ≤ 100000000
+  pub area : IsFitArea r.points
 
 -- what holds on both sides of an `if`
 if_keeps : {X : Type 0} (Q : X → Type 0) (b : Bool) (x y : X) → Q x → Q y → Q (if b then x else y)

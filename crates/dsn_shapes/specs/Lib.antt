@@ -3,10 +3,10 @@ pub mod Drawn
 pub mod Keepouts
 pub mod Outlines
 pub mod Ahead
-pub mod Rooms
+pub mod Quotas
 pub mod Limits
 pub mod NameLists
-pub mod RoomLists
+pub mod QuotaLists
 pub mod RectLists
 pub mod RingLists
 pub mod DrawnLists

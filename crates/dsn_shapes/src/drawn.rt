@@ -11,14 +11,12 @@ ghost use Rattle.dsn_shapes.specs.Drawn.{on_each, on_layers, shape_word, circles
 use crate::rings::{rect_at, ring_at};
 use area_geometry::{Core, Shape, Shapes};
 use dsn_lists::{
-    DesignKind, NameSet, ReadWhy, circle_at, fault, is_word, layers_at, path_at, word_at,
+    DesignKind, NameSet, ReadWhy, circle_at, is_word, layers_at, next_list, path_at, refused,
+    word_at,
 };
-use row_lists::Row;
+use row_lists::{Copied, LAYER_LIMIT, Row};
 use sexp_text::{Cursor, Part, Unit, front};
 use std::alloc::{AllocError, Global};
-
-/// How many layers a design may have.
-const LAYERS: usize = 32;
 
 // What stands at the place of a shape.
 #[derive(Clone, Copy, Debug)]
@@ -38,10 +36,10 @@ pub enum ShapeWord {
 fn put_on_each(shapes: &mut Shapes, count: usize, core: &Core, width: u32) -> Result<(), AllocError>
     ensures { OnOk result (shapes.new ≡ shapes.old ++ on_each (min count 32) core.now width) }
 {
-    for layer in 0..count.min(LAYERS) {
+    for layer in 0..count.min(LAYER_LIMIT) {
         shapes.push(Shape {
             layer: layer as u8,
-            core: core.copy()?,
+            core: core.copied()?,
             width,
         })?;
     }
@@ -61,7 +59,7 @@ fn put_on_layers(
     let Some(layer) = layer else {
         return put_on_each(shapes, count, &core, width);
     };
-    if layer >= LAYERS {
+    if layer >= LAYER_LIMIT {
         return Ok(());
     }
     shapes.push(Shape {
@@ -210,10 +208,10 @@ fn add_shape(
         ShapeWord::Path => add_path(alloc, unit, layers, shapes, at, args),
         ShapeWord::Rect => add_rect(alloc, unit, layers, shapes, at, args),
         ShapeWord::Polygon => add_polygon(alloc, unit, layers, shapes, at, args),
-        ShapeWord::Arc => Err(ReadWhy::from(fault(DesignKind::Arc, word.at))),
-        ShapeWord::Polyline => Err(ReadWhy::from(fault(DesignKind::Polyline, word.at))),
-        ShapeWord::Window => Err(ReadWhy::from(fault(DesignKind::Window, word.at))),
-        ShapeWord::Other => Err(ReadWhy::from(fault(DesignKind::Shape, word.at))),
+        ShapeWord::Arc => Err(refused(DesignKind::Arc, word.at)),
+        ShapeWord::Polyline => Err(refused(DesignKind::Polyline, word.at)),
+        ShapeWord::Window => Err(refused(DesignKind::Window, word.at)),
+        ShapeWord::Other => Err(refused(DesignKind::Shape, word.at)),
     }
 }
 
@@ -228,20 +226,11 @@ fn add_each(
     ensures { Gives (λ _. shapes.new) result (each (shape_item unit layers.now) shapes.old (forest list.entry)) }
 {
     let mut rest = list;
-    'lists: loop {
-        match front(rest) {
-            Part::End => return Ok(()),
-            Part::Word { at, .. } => return Err(ReadWhy::from(fault(DesignKind::Form, at))),
-            Part::List {
-                at,
-                inside,
-                rest: after,
-            } => {
-                add_shape(alloc, unit, layers, shapes, at, inside)?;
-                rest = after;
-            }
-        }
+    'lists: while let Some((at, inside, after)) = next_list(rest)? {
+        add_shape(alloc, unit, layers, shapes, at, inside)?;
+        rest = after;
     }
+    Ok(())
 }
 
 /// Puts the shapes of a list that begins at this byte, behind its keyword, behind those that are there. Widths and
@@ -277,8 +266,8 @@ fn shape_list(
     ensures { Gives (λ _. shapes.new) result (shapes_of unit layers.now shapes.old at (forest args.entry)) }
 {
     match front(args) {
-        Part::End => Err(ReadWhy::from(fault(DesignKind::Form, at))),
-        Part::Word { at, .. } => Err(ReadWhy::from(fault(DesignKind::Form, at))),
+        Part::End => Err(refused(DesignKind::Form, at)),
+        Part::Word { at, .. } => Err(refused(DesignKind::Form, at)),
         Part::List { .. } => add_each(alloc, unit, layers, shapes, args),
     }
 }

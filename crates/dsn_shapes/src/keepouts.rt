@@ -10,7 +10,9 @@ ghost use Rattle.dsn_shapes.specs.Whys.{IsWhy};
 use crate::drawn::{ShapeWord, shape_word, shapes_at};
 use area_geometry::Shapes;
 use board_items::KeepKind;
-use dsn_lists::{DesignFault, DesignKind, NameSet, ReadWhy, fault, is_word, opening};
+use dsn_lists::{
+    DesignFault, DesignKind, NameSet, ReadWhy, fault, is_word, next_list, opening, refused,
+};
 use sexp_text::{Cursor, Part, Unit, front};
 use std::alloc::Global;
 
@@ -54,20 +56,11 @@ fn read_behind(list: Cursor<'_>) -> Result<(), DesignFault>
     ensures { Tells (λ x. x) result (each after_item tt (forest list.entry)) }
 {
     let mut rest = list;
-    'lists: loop {
-        match front(rest) {
-            Part::End => return Ok(()),
-            Part::Word { at, .. } => return Err(fault(DesignKind::Form, at)),
-            Part::List {
-                at,
-                inside,
-                rest: after,
-            } => {
-                read_after(at, inside)?;
-                rest = after;
-            }
-        }
+    'lists: while let Some((at, inside, after)) = next_list(rest)? {
+        read_after(at, inside)?;
+        rest = after;
     }
+    Ok(())
 }
 
 #[tactic(auto, unfolding(crate::specs::Keepouts::kept_of))]
@@ -81,8 +74,8 @@ fn kept_at(
     ensures { Gives (λ ss. ss) result (kept_of unit layers.now at (forest list.entry)) }
 {
     match front(list) {
-        Part::End => Err(ReadWhy::from(fault(DesignKind::Form, at))),
-        Part::Word { at, .. } => Err(ReadWhy::from(fault(DesignKind::Form, at))),
+        Part::End => Err(refused(DesignKind::Form, at)),
+        Part::Word { at, .. } => Err(refused(DesignKind::Form, at)),
         Part::List { at, inside, rest } => {
             let shapes = shapes_at(alloc, unit, layers, at, inside)?;
             read_behind(rest)?;

@@ -3,7 +3,6 @@ ghost use Rattle.std.specs.Prelude.{◌≡◌, ◌++◌, List, Ok, Err, IfOk, If
 ghost use Rattle.sexp_text.specs.Shows.{forest};
 ghost use Rattle.dsn_lists.specs.Results.{Tells, Gives, each};
 ghost use Rattle.dsn_lists.specs.Words.{marked};
-ghost use Rattle.dsn_lists.specs.Layers.{is_every};
 ghost use Rattle.seg_geometry.specs.declared.points.Pt.{Pt};
 ghost use Rattle.dsn_shapes.specs.OutlineLists.{IsBoundary, BoundaryFault};
 ghost use Rattle.dsn_shapes.specs.Whys.{IsWhy, Adds};
@@ -12,17 +11,12 @@ ghost use Rattle.dsn_shapes.specs.Outlines.{outline_layer, rect_outline, ring_ou
 use crate::drawn::{ShapeWord, shape_word};
 use crate::rings::{open_ring, rect_at, ring_at};
 use board_rules::Areas;
-use dsn_lists::{DesignFault, DesignKind, Found, ReadWhy, fault, is_word, word_at};
+use dsn_lists::{
+    DesignFault, DesignKind, Found, ReadWhy, fault, next_list, refused, stands_for_all, word_at,
+};
 use seg_geometry::Points;
 use sexp_text::{Cursor, Part, Unit, front};
 use std::alloc::Global;
-
-#[tactic(auto, unfolding(dsn_lists::specs::Layers::is_every))]
-fn stands_for_all(text: &[u8]) -> bool
-    ensures { result ≡ is_every text.now }
-{
-    is_word(text, b"signal") || is_word(text, b"pcb")
-}
 
 #[tactic(auto, unfolding(crate::specs::Outlines::outline_layer))]
 fn check_layer(word: Found<'_>) -> Result<(), DesignFault>
@@ -60,14 +54,14 @@ fn outline_at(alloc: Global, unit: Unit, at: u32, inside: Cursor<'_>) -> Result<
 {
     let (word, args) = word_at(at, inside)?;
     match shape_word(word.text) {
-        ShapeWord::Circle => Err(ReadWhy::from(fault(DesignKind::Shape, word.at))),
+        ShapeWord::Circle => Err(refused(DesignKind::Shape, word.at)),
         ShapeWord::Path => ring_outline(alloc, unit, at, args),
         ShapeWord::Rect => rect_outline(alloc, unit, at, args),
         ShapeWord::Polygon => ring_outline(alloc, unit, at, args),
-        ShapeWord::Arc => Err(ReadWhy::from(fault(DesignKind::Arc, word.at))),
-        ShapeWord::Polyline => Err(ReadWhy::from(fault(DesignKind::Polyline, word.at))),
-        ShapeWord::Window => Err(ReadWhy::from(fault(DesignKind::Shape, word.at))),
-        ShapeWord::Other => Err(ReadWhy::from(fault(DesignKind::Shape, word.at))),
+        ShapeWord::Arc => Err(refused(DesignKind::Arc, word.at)),
+        ShapeWord::Polyline => Err(refused(DesignKind::Polyline, word.at)),
+        ShapeWord::Window => Err(refused(DesignKind::Shape, word.at)),
+        ShapeWord::Other => Err(refused(DesignKind::Shape, word.at)),
     }
 }
 
@@ -91,20 +85,11 @@ fn add_each(alloc: Global, unit: Unit, outline: &mut Areas, list: Cursor<'_>) ->
     ensures { Gives (λ _. outline.new) result (each (outline_item unit) outline.old (forest list.entry)) }
 {
     let mut rest = list;
-    'lists: loop {
-        match front(rest) {
-            Part::End => return Ok(()),
-            Part::Word { at, .. } => return Err(ReadWhy::from(fault(DesignKind::Form, at))),
-            Part::List {
-                at,
-                inside,
-                rest: after,
-            } => {
-                add_outline(alloc, unit, outline, at, inside)?;
-                rest = after;
-            }
-        }
+    'lists: while let Some((at, inside, after)) = next_list(rest)? {
+        add_outline(alloc, unit, outline, at, inside)?;
+        rest = after;
     }
+    Ok(())
 }
 
 /// Puts the areas of a boundary that begins at this byte, behind its keyword, behind those that are there. Points are
@@ -138,8 +123,8 @@ fn boundary(
     ensures { Gives (λ _. outline.new) result (outlines_of unit outline.old at (forest args.entry)) }
 {
     match front(args) {
-        Part::End => Err(ReadWhy::from(fault(DesignKind::Form, at))),
-        Part::Word { at, .. } => Err(ReadWhy::from(fault(DesignKind::Form, at))),
+        Part::End => Err(refused(DesignKind::Form, at)),
+        Part::Word { at, .. } => Err(refused(DesignKind::Form, at)),
         Part::List { .. } => add_each(alloc, unit, outline, args),
     }
 }

@@ -5,7 +5,7 @@ ghost use Rattle.dsn_lists.specs.Results.{Tells, Gives};
 ghost use Rattle.dsn_shapes.specs.Rings.{is_same_point, is_closed, opened, as_ring, ring_of, corner_of, corners, rect_of};
 
 use dsn_lists::{
-    Coordinates, DesignFault, DesignKind, ReadWhy, coordinates_at, fault, length_at, read_trail,
+    Coordinates, DesignFault, DesignKind, ReadWhy, coordinates_at, length_at, read_trail, refused,
     width_at, word_at,
 };
 use row_lists::Row;
@@ -55,7 +55,7 @@ fn whole_ring(alloc: Global, at: u32, width: u32, c: Coordinates) -> Result<Ring
     let Coordinates { points, half } = c;
     let points = open_ring(alloc, points)?;
     if half.is_some() || points.len() < 3 {
-        return Err(ReadWhy::from(fault(DesignKind::Points, at)));
+        return Err(refused(DesignKind::Points, at));
     }
     Ok(Ring { width, points })
 }

@@ -10,7 +10,7 @@ use Rattle.dsn_lists.specs.Lists.{last_of}
 use Rattle.dsn_lists.specs.Statements.{Claim}
 use Rattle.dsn_lists.proofs.UnitLaws.{last-append}
 use Rattle.dsn_lists.proofs.RuleListLaws.{rule_by, rule_same, rule_more}
-use Rattle.dsn_shapes.specs.declared.rooms.Room.{Room}
+use Rattle.dsn_shapes.specs.declared.quotas.Quota.{Quota}
 use Rattle.dsn_structure.specs.declared.flips.FlipStyle.{FlipStyle}
 use Rattle.dsn_structure.specs.declared.structure.Structure.{Structure}
 use Rattle.dsn_structure.proofs.TakenLaws.{taken, taken_none, taken_more}
@@ -54,7 +54,7 @@ adding u s a = record {
   flip = last_flip s.flip a.flips;
   outline = s.outline ++ a.areas;
   keeps = s.keeps ++ a.keeps;
-  room = taken s.room a.keeps;
+  quota = taken s.quota a.keeps;
 }
 
 pub adding_more : (u : LengthUnit) (s : Structure) (a b : Added) → adding u (adding u s a) b ≡ adding u s (both a b)
@@ -65,7 +65,7 @@ adding_more u s a b = λ i. record {
   flip = (sym (last-append s.flip (map Some a.flips) (map Some b.flips)) ∙ ap (λ (os : List (Option FlipStyle)). last_of s.flip os) (sym (map-append Some a.flips b.flips))) i;
   outline = append_assoc s.outline a.areas b.areas i;
   keeps = append_assoc s.keeps a.keeps b.keeps i;
-  room = taken_more s.room a.keeps b.keeps i;
+  quota = taken_more s.quota a.keeps b.keeps i;
 }
 
 -- ---- what one list adds
@@ -79,7 +79,7 @@ adding_none u s = λ i. record {
   flip = s.flip;
   outline = sym (append-nil s.outline) i;
   keeps = sym (append-nil s.keeps) i;
-  room = taken_none s.room i;
+  quota = taken_none s.quota i;
 }
 
 pub adding_layer : (u : LengthUnit) (s : Structure) (n : List ℕ) (ls : List (List ℕ)) → ls ≡ n ∷ [] → record s { layers = s.layers ++ n ∷ [] } ≡ adding u s (record nothing { layers = ls })
@@ -97,5 +97,5 @@ adding_flip u s f fs e = λ i. record (adding_none u s i) { flip = last_flip s.f
 pub adding_areas : (u : LengthUnit) (s : Structure) (areas more : List (List Pt)) → areas ≡ s.outline ++ more → record s { outline = areas } ≡ adding u s (record nothing { areas = more })
 adding_areas u s areas more e = λ i. record (adding_none u s i) { outline = e i }
 
-pub adding_keep : (u : LengthUnit) (s : Structure) (item : Item) (left : Room) (is : List Item) → is ≡ item ∷ [] → left ≡ taken s.room is → record s { keeps = s.keeps ++ item ∷ []; room = left } ≡ adding u s (record nothing { keeps = is })
-adding_keep u s item left is e r = λ i. record (adding_none u s i) { keeps = s.keeps ++ sym e i; room = r i }
+pub adding_keep : (u : LengthUnit) (s : Structure) (item : Item) (left : Quota) (is : List Item) → is ≡ item ∷ [] → left ≡ taken s.quota is → record s { keeps = s.keeps ++ item ∷ []; quota = left } ≡ adding u s (record nothing { keeps = is })
+adding_keep u s item left is e r = λ i. record (adding_none u s i) { keeps = s.keeps ++ sym e i; quota = r i }

@@ -3,7 +3,7 @@ pub mod Fits
 pub mod StyleLaws
 pub mod ControlLaws
 pub mod FlipLaws
-pub mod NewLayerLaws
+pub mod LayerTypes
 pub mod LayerLaws
 pub mod AreaLaws
 pub mod TakenLaws

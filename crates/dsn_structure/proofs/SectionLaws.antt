@@ -9,14 +9,14 @@ use Rattle.dsn_lists.specs.Lists.{collect, Every}
 use Rattle.dsn_lists.proofs.Firsts.{made, ok_is, bind_ok}
 use Rattle.dsn_lists.proofs.Fresh.{AreFreshBehind, fresh_none, fresh_join, fresh_front, fresh_back}
 use Rattle.dsn_lists.proofs.RuleLaws.{rule_states, AllWidths, AllClaims, widths_join, claims_join}
-use Rattle.dsn_shapes.specs.declared.rooms.Room.{Room}
+use Rattle.dsn_shapes.specs.declared.quotas.Quota.{Quota}
 use Rattle.dsn_structure.specs.declared.structure.Structure.{Structure}
 use Rattle.dsn_structure.specs.declared.structure.StructureWord.{StructureWord}
 use Rattle.dsn_structure.specs.declared.structure.StructureWord.TheVariants as words
 use Rattle.dsn_structure.specs.Structures.{structure_word, structure_item}
 use Rattle.dsn_structure.specs.InLists.{layers_in, vias_in, widths_of_list, rule_widths, claims_of_list, rule_claims, flips_in}
 use Rattle.dsn_structure.specs.Meaning.{IsOfStructure, IsStructureList}
-use Rattle.dsn_structure.proofs.TakenLaws.{taken, HasRoom, none_fit, room_join, room_front, room_rest}
+use Rattle.dsn_structure.proofs.TakenLaws.{taken, HasQuota, none_fit, quota_join, quota_front, quota_rest}
 use Rattle.dsn_structure.proofs.AreaLaws.{areas_in, items_in}
 use Rattle.dsn_structure.proofs.AddingLaws.{Added, adding, adding_more, adding_none}
 use Rattle.dsn_structure.proofs.OneListLaws.{added_by, next, IsGood, still_few, one_found, one_again}
@@ -51,23 +51,23 @@ pub record AreGood (u : LengthUnit) (layers : List (List ℕ)) (s : Structure) (
   pub formed : Every (IsStructureList u layers) f
   pub fresh : AreFreshBehind s.layers (collect layers_in f)
   pub few : length (s.layers ++ collect layers_in f) ≤ 32
-  pub space : HasRoom s.room (collect (items_in u layers) f)
+  pub space : HasQuota s.quota (collect (items_in u layers) f)
 
 pub all_found : (u : LengthUnit) (layers : List (List ℕ)) (f : Forest) (s t : Structure) → length s.layers ≤ 32 → each (structure_item u layers) s f ≡ Ok t → AreGood u layers s f × (t ≡ all u layers s f)
 unfolding each structure_item
-all_found u layers End s t few e = (record { formed = tt; fresh = fresh_none s.layers; few = still_few s.layers few; space = none_fit s.room }, sym (ok_is s t e) ∙ adding_none u s)
+all_found u layers End s t few e = (record { formed = tt; fresh = fresh_none s.layers; few = still_few s.layers few; space = none_fit s.quota }, sym (ok_is s t e) ∙ adding_none u s)
 all_found u layers (Word at text rest) s t few e = absurd cc
 all_found u layers (Branch at inside rest) s t few e =
     let y = bind_ok (structure_item u layers s at inside) (λ y. each (structure_item u layers) y rest) t e in
     let one = one_found u layers s at (head_of inside) (structure_word (head_of inside).text) y.0 few y.1 in
     let names : y.0.layers ≡ s.layers ++ layers_in at inside = ap (λ (x : Structure). x.layers) one.1 in
-    let left : y.0.room ≡ taken s.room (items_in u layers at inside) = ap (λ (x : Structure). x.room) one.1 in
+    let left : y.0.quota ≡ taken s.quota (items_in u layers at inside) = ap (λ (x : Structure). x.quota) one.1 in
     let others = all_found u layers rest y.0 t (subst (λ (xs : List (List ℕ)). length xs ≤ 32) (sym names) one.0.few) y.2 in (
       record {
         formed = (one.0.formed, others.0.formed);
         fresh = fresh_join (layers_in at inside) (collect layers_in rest) s.layers one.0.fresh (subst (λ (xs : List (List ℕ)). AreFreshBehind xs (collect layers_in rest)) names others.0.fresh);
         few = subst (λ (xs : List (List ℕ)). length xs ≤ 32) (ap (λ (xs : List (List ℕ)). xs ++ collect layers_in rest) names ∙ append_assoc s.layers (layers_in at inside) (collect layers_in rest)) others.0.few;
-        space = room_join s.room (items_in u layers at inside) (collect (items_in u layers) rest) one.0.space (subst (λ (r : Room). HasRoom r (collect (items_in u layers) rest)) left others.0.space);
+        space = quota_join s.quota (items_in u layers at inside) (collect (items_in u layers) rest) one.0.space (subst (λ (r : Quota). HasQuota r (collect (items_in u layers) rest)) left others.0.space);
       },
       others.1 ∙ ap (λ (x : Structure). all u layers x rest) one.1 ∙ more u layers s at inside rest,
     )
@@ -87,14 +87,14 @@ all_again u layers (Branch at inside rest) s g =
       formed = g.formed.0;
       fresh = fresh_front (layers_in at inside) (collect layers_in rest) s.layers g.fresh;
       few = front_few s.layers (layers_in at inside) (collect layers_in rest) g.few;
-      space = room_front s.room (items_in u layers at inside) (collect (items_in u layers) rest) g.space;
+      space = quota_front s.quota (items_in u layers at inside) (collect (items_in u layers) rest) g.space;
     } in
     let first = one_again u layers s at (head_of inside) (structure_word (head_of inside).text) here in
     let others : AreGood u layers (next_list u layers s inside) rest = record {
       formed = g.formed.1;
       fresh = fresh_back (layers_in at inside) (collect layers_in rest) s.layers g.fresh;
       few = subst (λ (xs : List (List ℕ)). length xs ≤ 32) (sym (append_assoc s.layers (layers_in at inside) (collect layers_in rest))) g.few;
-      space = room_rest s.room (items_in u layers at inside) (collect (items_in u layers) rest) g.space;
+      space = quota_rest s.quota (items_in u layers at inside) (collect (items_in u layers) rest) g.space;
     } in
     rw first (all_again u layers rest (next_list u layers s inside) others ∙ ap made (more u layers s at inside rest))
 

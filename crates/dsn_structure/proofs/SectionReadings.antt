@@ -21,15 +21,15 @@ use Rattle.dsn_lists.proofs.Firsts.{made, ok_is, bind_ok, bind_err, guard_ok, gu
 use Rattle.dsn_lists.proofs.UnitLaws.{governs}
 use Rattle.dsn_lists.proofs.RuleListLaws.{rule_by}
 use Rattle.dsn_lists.proofs.RuleLaws.{says_found, says_is}
-use Rattle.dsn_shapes.specs.declared.rooms.Room.{Room}
-use Rattle.dsn_shapes.specs.Rooms.{whole_room}
+use Rattle.dsn_shapes.specs.declared.quotas.Quota.{Quota}
+use Rattle.dsn_shapes.specs.Quotas.{whole_quota}
 use Rattle.dsn_shapes.proofs.NameLaws.{ahead_is}
 use Rattle.dsn_structure.specs.declared.structure.Structure.{Structure}
 use Rattle.dsn_structure.specs.Structures.{structure_word, structure_item, no_structure, with_layer, all_layers, structure_at}
 use Rattle.dsn_structure.specs.InLists.{layers_in, rule_widths, rule_claims}
 use Rattle.dsn_structure.specs.AreaLists.{boundaries_in, AreOutlines, keeps_in, AreKeeps, points_of_keeps}
 use Rattle.dsn_structure.specs.Meaning.{IsSection, section_layers, IsStructure, Stand, OfStructureFault, StructureListFault, FaultIn, IsFirstFault}
-use Rattle.dsn_structure.proofs.TakenLaws.{taken, HasRoom}
+use Rattle.dsn_structure.proofs.TakenLaws.{taken, HasQuota}
 use Rattle.dsn_structure.proofs.AreaLaws.{areas_in, items_in, outlines_found, outlines_are, keeps_found, keeps_are}
 use Rattle.dsn_structure.proofs.OneListLaws.{one_fault, one_fault_again}
 use Rattle.dsn_structure.proofs.SectionLaws.{all, AreGood, all_found, all_again, all_state}
@@ -43,7 +43,7 @@ section_of_good u layers f t g e =
     let names : t.layers ≡ collect layers_in f = ap (λ (x : Structure). x.layers) e in
     let areas : t.outline ≡ collect (areas_in u) f = ap (λ (x : Structure). x.outline) e in
     let keeps : t.keeps ≡ collect (items_in u layers) f = ap (λ (x : Structure). x.keeps) e in
-    let room : t.room ≡ taken whole_room (collect (items_in u layers) f) = ap (λ (x : Structure). x.room) e in
+    let quota : t.quota ≡ taken whole_quota (collect (items_in u layers) f) = ap (λ (x : Structure). x.quota) e in
     let few_items = g.space.items in
     let few_points = g.space.points in
     let all_items : length (collect (items_in u layers) f) + (200000 - length (collect (items_in u layers) f)) ≡ 200000 = omega (arith, few_items) in
@@ -58,20 +58,20 @@ section_of_good u layers f t g e =
       flip = ap (λ (x : Structure). x.flip) e;
       outline = subst (λ (xs : List (List Pt)). AreOutlines u (collect boundaries_in f) xs) (sym areas) (outlines_found u layers f g.formed);
       keeps = subst (λ (xs : List Item). AreKeeps u layers (collect keeps_in f) xs) (sym keeps) (keeps_found u layers f g.formed);
-      items = ap (λ (xs : List Item). length xs + t.room.items) keeps ∙ ap (λ (r : Room). length (collect (items_in u layers) f) + r.items) room ∙ all_items;
-      points = ap (λ (xs : List Item). points_of_keeps xs + t.room.points) keeps ∙ ap (λ (r : Room). points_of_keeps (collect (items_in u layers) f) + r.points) room ∙ all_points;
+      items = ap (λ (xs : List Item). length xs + t.quota.items) keeps ∙ ap (λ (r : Quota). length (collect (items_in u layers) f) + r.items) quota ∙ all_items;
+      points = ap (λ (xs : List Item). points_of_keeps xs + t.quota.points) keeps ∙ ap (λ (r : Quota). points_of_keeps (collect (items_in u layers) f) + r.points) quota ∙ all_points;
     }
 
 section_found : (u : LengthUnit) (layers : List (List ℕ)) (f : Forest) (t : Structure) → each (structure_item u layers) no_structure f ≡ Ok t → IsSection u layers f t × (t ≡ all u layers no_structure f)
 section_found u layers f t e = let h = all_found u layers f no_structure t (omega arith) e in (section_of_good u layers f t h.0 h.1, h.1)
 
-has_room : (room : Room) (ks : List Item) → length ks + room.items ≡ 200000 → points_of_keeps ks + room.points ≡ 4000000 → HasRoom whole_room ks
-has_room room ks items points = record { items = omega (arith, items); points = omega (arith, points) }
+has_quota : (quota : Quota) (ks : List Item) → length ks + quota.items ≡ 200000 → points_of_keeps ks + quota.points ≡ 4000000 → HasQuota whole_quota ks
+has_quota quota ks items points = record { items = omega (arith, items); points = omega (arith, points) }
 
-room_is : (room : Room) (ks : List Item) → length ks + room.items ≡ 200000 → points_of_keeps ks + room.points ≡ 4000000 → taken whole_room ks ≡ room
-room_is room ks items points =
-    let a : 200000 - length ks ≡ room.items = omega (arith, items) in
-    let b : 4000000 - points_of_keeps ks ≡ room.points = omega (arith, points) in
+quota_is : (quota : Quota) (ks : List Item) → length ks + quota.items ≡ 200000 → points_of_keeps ks + quota.points ≡ 4000000 → taken whole_quota ks ≡ quota
+quota_is quota ks items points =
+    let a : 200000 - length ks ≡ quota.items = omega (arith, items) in
+    let b : 4000000 - points_of_keeps ks ≡ quota.points = omega (arith, points) in
     λ i. record { items = a i; points = b i }
 
 good_of_section : (u : LengthUnit) (layers : List (List ℕ)) (f : Forest) (t : Structure) → IsSection u layers f t → AreGood u layers no_structure f
@@ -79,7 +79,7 @@ good_of_section u layers f t h = record {
   formed = h.formed;
   fresh = subst (λ (xs : List (List ℕ)). (before after : List (List ℕ)) (name : List ℕ) → xs ≡ before ++ name ∷ after → is_among name before ≡ false) h.layers h.fresh;
   few = subst (λ (xs : List (List ℕ)). length xs ≤ 32) h.layers h.few;
-  space = subst (λ (ks : List Item). HasRoom whole_room ks) (sym (keeps_are u layers f t.keeps h.keeps)) (has_room t.room t.keeps h.items h.points);
+  space = subst (λ (ks : List Item). HasQuota whole_quota ks) (sym (keeps_are u layers f t.keeps h.keeps)) (has_quota t.quota t.keeps h.items h.points);
 }
 
 section_is : (u : LengthUnit) (layers : List (List ℕ)) (f : Forest) (t : Structure) → IsSection u layers f t → all u layers no_structure f ≡ t
@@ -87,8 +87,8 @@ section_is u layers f t h =
     let rule = says_is u (collect rule_widths f) (collect rule_claims f) t.rule h.rule in
     let areas = outlines_are u f t.outline h.outline in
     let keeps = keeps_are u layers f t.keeps h.keeps in
-    let room = ap (λ (ks : List Item). taken whole_room ks) keeps ∙ room_is t.room t.keeps h.items h.points in
-    λ i. record { layers = sym h.layers i; vias = sym h.vias i; rule = sym rule i; flip = sym h.flip i; outline = areas i; keeps = keeps i; room = room i }
+    let quota = ap (λ (ks : List Item). taken whole_quota ks) keeps ∙ quota_is t.quota t.keeps h.items h.points in
+    λ i. record { layers = sym h.layers i; vias = sym h.vias i; rule = sym rule i; flip = sym h.flip i; outline = areas i; keeps = keeps i; quota = quota i }
 
 section_again : (u : LengthUnit) (layers : List (List ℕ)) (f : Forest) (t : Structure) → IsSection u layers f t → each (structure_item u layers) no_structure f ≡ Ok (all u layers no_structure f)
 section_again u layers f t h = all_again u layers f no_structure (good_of_section u layers f t h)

@@ -12,16 +12,17 @@ use Rattle.board_items.specs.declared.items.Item.TheVariants.{Keep}
 use Rattle.dsn_lists.specs.declared.marks.Mark.{Mark}
 use Rattle.dsn_lists.specs.declared.pcb.Section.TheVariants as sections
 use Rattle.dsn_lists.specs.Results.{◌>>=◌, each}
-use Rattle.dsn_lists.specs.Names.{is_among}
 use Rattle.dsn_lists.specs.Words.{Heading, head_of, word_of, name_list}
 use Rattle.dsn_lists.specs.Units.{unit_list, governing}
 use Rattle.dsn_lists.specs.Rules.{rule_of}
 use Rattle.dsn_lists.specs.Pcbs.{Spot, design_of, section_in}
 use Rattle.dsn_lists.specs.Limits.{IsFitRule}
+use Rattle.dsn_lists.specs.NewNames.{new_name}
 use Rattle.dsn_lists.proofs.Bounds.{ok_is, err_gives, bind_ok, else_ok, each_keeps, all_push, rule_of_bound, no_rule_fit}
 use Rattle.dsn_lists.proofs.Sizes.{each_grows, head_of_size, section_size}
-use Rattle.dsn_shapes.specs.declared.rooms.Room.{Room}
-use Rattle.dsn_shapes.specs.Rooms.{room_behind}
+use Rattle.dsn_lists.proofs.NewNameLaws.{new_found}
+use Rattle.dsn_shapes.specs.declared.quotas.Quota.{Quota}
+use Rattle.dsn_shapes.specs.Quotas.{quota_behind}
 use Rattle.dsn_shapes.specs.Keepouts.{keep_shapes}
 use Rattle.dsn_shapes.specs.Outlines.{outlines_of}
 use Rattle.dsn_shapes.specs.Limits.{AreFitAreas}
@@ -31,7 +32,7 @@ use Rattle.dsn_shapes.proofs.NameLaws.{ahead_is}
 use Rattle.dsn_structure.specs.declared.structure.Structure.{Structure}
 use Rattle.dsn_structure.specs.declared.structure.StructureWord.{StructureWord}
 use Rattle.dsn_structure.specs.declared.structure.StructureWord.TheVariants as words
-use Rattle.dsn_structure.specs.Structures.{flip_of, new_layer, layer_of, layers_with, with_outlines, put_keep, with_keep, structure_word, structure_list, structure_item, no_structure, with_layer, all_layers, structure_at, structure_of}
+use Rattle.dsn_structure.specs.Structures.{flip_of, layer_of, layers_with, with_outlines, put_keep, with_keep, structure_word, structure_list, structure_item, no_structure, with_layer, all_layers, structure_at, structure_of}
 use Rattle.dsn_structure.specs.Limits.{IsFitKeep, IsFitStructure}
 use Rattle.dsn_structure.specs.Meaning.{IsStructure}
 use Rattle.dsn_structure.proofs.AheadLaws.{ahead_are_layers}
@@ -44,26 +45,19 @@ record IsFitPart (count : ℕ) (s : Structure) : Type 0 where
   outline : AreFitAreas s.outline
   keeps : AllByRecursion (IsFitKeep count) s.keeps
 
-room_for_layer : (names : List (List ℕ)) (w : Mark) → new_layer names w ≡ Ok tt → length names < 32
-unfolding new_layer
-room_for_layer names w e =
-    let a = else_ok (is_among w.name names) _ _ _ tt e in
-    let b = else_ok (nat_lt 31 (length names)) _ _ _ tt a.1 in
-    grind (arith, b.0)
-
 room_for_layer_of : (names : List (List ℕ)) (at : ℕ) (f : Forest) (name : List ℕ) → layer_of names at f ≡ Ok name → length names < 32
 unfolding layer_of
 room_for_layer_of names at f name e =
     let a = bind_ok (word_of at f) _ name e in
-    let b = bind_ok (new_layer names a.0.0) _ name a.2 in
-    room_for_layer names a.0.0 b.1
+    let b = bind_ok (new_name 32 names a.0.0) _ name a.2 in
+    (new_found 32 names a.0.0.at a.0.0.name tt b.1).1
 
 fit_layers : (count : ℕ) (s : Structure) (at : ℕ) (f : Forest) (y : Structure) → IsFitPart count s → (layers_with s.layers at f >>= λ names. Ok (record s { layers = names })) ≡ Ok y → IsFitPart count y
 fit_layers count s at f y p e =
     let a = bind_ok (layers_with s.layers at f) _ y e in
     let b = bind_ok (layer_of s.layers at f) _ a.0 a.1 in
-    let room = room_for_layer_of s.layers at f b.0 b.1 in
-    let more : length (s.layers ++ b.0 ∷ []) ≤ 32 = rw (length-append s.layers (b.0 ∷ [])) (omega (arith, room)) in
+    let quota = room_for_layer_of s.layers at f b.0 b.1 in
+    let more : length (s.layers ++ b.0 ∷ []) ≤ 32 = rw (length-append s.layers (b.0 ∷ [])) (omega (arith, quota)) in
     let few = subst (λ (names : List (List ℕ)). length names ≤ 32) (ok_is b.2) more in
     let own : IsFitPart count (record s { layers = a.0 }) = record { few = few; rule = p.rule; outline = p.outline; keeps = p.keeps } in
     subst (IsFitPart count) (ok_is a.2) own
@@ -74,16 +68,16 @@ fit_outlines u count s at f y p e =
     let own : IsFitPart count (record s { outline = a.0 }) = record { few = p.few; rule = p.rule; outline = outlines_of_fit u s.outline at f a.0 p.outline a.1; keeps = p.keeps } in
     subst (IsFitPart count) (ok_is a.2) own
 
-put_parts : (at : ℕ) (s : Structure) (k : KeepKind) (ss : List Shape) (o : Option Room) (y : Structure) → put_keep at s k ss o ≡ Ok y → (room : Room) × (record s { keeps = s.keeps ++ Keep k ss ∷ []; room = room } ≡ y)
+put_parts : (at : ℕ) (s : Structure) (k : KeepKind) (ss : List Shape) (o : Option Quota) (y : Structure) → put_keep at s k ss o ≡ Ok y → (quota : Quota) × (record s { keeps = s.keeps ++ Keep k ss ∷ []; quota = quota } ≡ y)
 put_parts at s k ss None y e = absurd (err_gives e)
-put_parts at s k ss (Some room) y e = (room, ok_is e)
+put_parts at s k ss (Some quota) y e = (quota, ok_is e)
 
 fit_keep : (u : LengthUnit) (names : List (List ℕ)) (s : Structure) (k : KeepKind) (at : ℕ) (f : Forest) (y : Structure) → IsFitPart (length names) s → with_keep u names s k at f ≡ Ok y → IsFitPart (length names) y
 fit_keep u names s k at f y p e =
     let a = bind_ok (keep_shapes u names at f) _ y e in
-    let b = put_parts at s k a.0 (room_behind s.room a.0) y a.2 in
+    let b = put_parts at s k a.0 (quota_behind s.quota a.0) y a.2 in
     let kept : IsFitKeep (length names) (Keep k a.0) = record { shapes = keep_shapes_fit u names at f a.0 a.1; few = keep_shapes_few u names at f a.0 a.1 } in
-    let own : IsFitPart (length names) (record s { keeps = s.keeps ++ Keep k a.0 ∷ []; room = b.0 }) =
+    let own : IsFitPart (length names) (record s { keeps = s.keeps ++ Keep k a.0 ∷ []; quota = b.0 }) =
     record { few = p.few; rule = p.rule; outline = p.outline; keeps = all_push (IsFitKeep (length names)) s.keeps (Keep k a.0) p.keeps kept } in
     subst (IsFitPart (length names)) b.1 own
 
@@ -177,7 +171,7 @@ grown_list u names s at h words.Boundary y e =
     omega (arith, same, more)
 grown_list u names s at h (words.Keep k) y e =
     let a = bind_ok (keep_shapes u names at h.args) _ y e in
-    let b = put_parts at s k a.0 (room_behind s.room a.0) y a.2 in
+    let b = put_parts at s k a.0 (quota_behind s.quota a.0) y a.2 in
     let same = ap (λ (t : Structure). length t.outline) b.1 in
     omega (arith, same)
 grown_list u names s at h words.Other y e = let same = ap (λ (t : Structure). length t.outline) (ok_is e) in omega (arith, same)

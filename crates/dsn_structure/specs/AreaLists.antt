@@ -11,7 +11,7 @@ use Rattle.board_items.specs.declared.items.Item.TheVariants as items
 use Rattle.dsn_lists.specs.Words.{head_of}
 use Rattle.dsn_shapes.specs.KeepLists.{IsKeepout}
 use Rattle.dsn_shapes.specs.OutlineLists.{IsBoundary}
-use Rattle.dsn_shapes.specs.RoomLists.{points_of_shapes}
+use Rattle.dsn_shapes.specs.QuotaLists.{points_of_shapes}
 use Rattle.dsn_structure.specs.declared.structure.StructureWord.{StructureWord}
 use Rattle.dsn_structure.specs.declared.structure.StructureWord.TheVariants as words
 use Rattle.dsn_structure.specs.Structures.{structure_word}

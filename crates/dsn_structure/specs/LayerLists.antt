@@ -4,10 +4,10 @@ use Rattle.std.specs.Prelude.{◌≡◌, ℕ, ◌≤◌, ◌<◌, ◌⊎◌, tru
 use Rattle.sexp_text.specs.Forest.{Forest, End, Word, Branch}
 use Rattle.dsn_lists.specs.declared.faults.DesignFault.{DesignFault}
 use Rattle.dsn_lists.specs.declared.faults.DesignKind.TheVariants as kind
-use Rattle.dsn_lists.specs.Names.{is_among}
 use Rattle.dsn_lists.specs.Words.{same, head_of}
 use Rattle.dsn_lists.specs.Lists.{collect, Every, When, args_of, told, IsFirst}
 use Rattle.dsn_lists.specs.ShortLists.{HasWord, NoWordOr, IsOneWord, OneWordFault}
+use Rattle.dsn_lists.specs.NewNames.{IsNewName, OldNameFault}
 
 -- ---- `(layer <id> (type <word>) ..)`
 
@@ -31,16 +31,9 @@ TypeFault at f e = IsFirst (Every IsProperty) PropertyFault f e ⊎ (Every IsPro
 abbrev pub IsLayer : Forest → Type 0
 IsLayer f = HasWord (λ text rest. HasType rest) f
 
--- the name isn't one of these, and there is room for one more layer
-abbrev pub IsNew : List (List ℕ) → List ℕ → Type 0
-IsNew names text = (is_among text names ≡ false) × (length names < 32)
-
 -- the fault of a layer behind layers of these names: its name is one of them, there are 32 already, or its type is at fault
 abbrev pub LayerFault : List (List ℕ) → ℕ → Forest → DesignFault → Type 0
-LayerFault names at f e =
-    NoWordOr (λ a text rest e. ((is_among text names ≡ true) × (e ≡ told kind.Twice a))
-    ⊎ (((is_among text names ≡ false) × (32 ≤ length names) × (e ≡ told kind.Large a))
-    ⊎ (IsNew names text × TypeFault at rest e))) at f e
+LayerFault names at f e = NoWordOr (λ a text rest e. OldNameFault 32 names text a e ⊎ (IsNewName 32 names text × TypeFault at rest e)) at f e
 
 -- the name of a layer
 abbrev pub layer_name : Forest → List (List ℕ)

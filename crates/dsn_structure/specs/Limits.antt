@@ -27,5 +27,5 @@ pub record IsFitStructure (s : Structure) : Type 0 where
   pub rule : IsFitRule s.rule
   pub outline : AreFitAreas s.outline
   pub keeps : AllByRecursion (IsFitKeep (length s.layers)) s.keeps
-  pub items : length s.keeps + s.room.items ≡ 200000
-  pub points : points_of_keeps s.keeps + s.room.points ≡ 4000000
+  pub items : length s.keeps + s.quota.items ≡ 200000
+  pub points : points_of_keeps s.keeps + s.quota.points ≡ 4000000

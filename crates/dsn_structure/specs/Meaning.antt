@@ -21,7 +21,7 @@ use Rattle.dsn_lists.specs.Statements.{IsRule, RuleFault, Says}
 use Rattle.dsn_shapes.specs.NameLists.{each_once, first_of}
 use Rattle.dsn_shapes.specs.KeepLists.{IsKeepout, KeepoutFault}
 use Rattle.dsn_shapes.specs.OutlineLists.{IsBoundary, BoundaryFault}
-use Rattle.dsn_shapes.specs.RoomLists.{points_of_shapes, NoRoom}
+use Rattle.dsn_shapes.specs.QuotaLists.{points_of_shapes, NoQuota}
 use Rattle.dsn_structure.specs.declared.structure.Structure.{Structure}
 use Rattle.dsn_structure.specs.declared.structure.StructureWord.{StructureWord}
 use Rattle.dsn_structure.specs.declared.structure.StructureWord.TheVariants as words
@@ -65,8 +65,8 @@ pub record IsSection (u : LengthUnit) (names : List (List ℕ)) (f : Forest) (s 
   pub flip : s.flip ≡ last_of None (map Some (collect flips_in f))
   pub outline : AreOutlines u (collect boundaries_in f) s.outline
   pub keeps : AreKeeps u names (collect keeps_in f) s.keeps
-  pub items : length s.keeps + s.room.items ≡ 200000
-  pub points : points_of_keeps s.keeps + s.room.points ≡ 4000000
+  pub items : length s.keeps + s.quota.items ≡ 200000
+  pub points : points_of_keeps s.keeps + s.quota.points ≡ 4000000
 
 -- the names of the layers of the whole section, also of those that stand behind a keepout
 abbrev pub section_layers : Forest → List (List ℕ)
@@ -87,7 +87,7 @@ Stand u layers f = (s : Structure) × IsSection u layers f s
 abbrev pub KeepFault : LengthUnit → List (List ℕ) → Structure → ℕ → Forest → DesignFault → Type 0
 KeepFault u layers s at f e =
     KeepoutFault u layers at f e
-    ⊎ ((ss : List Shape) × IsKeepout u layers f ss × NoRoom s.room (points_of_shapes ss) × (e ≡ told kind.Large at))
+    ⊎ ((ss : List Shape) × IsKeepout u layers f ss × NoQuota s.quota (points_of_shapes ss) × (e ≡ told kind.Large at))
 
 -- what is wrong with a list that begins at this byte behind a structure, by its keyword
 abbrev pub OfStructureFault : LengthUnit → List (List ℕ) → Structure → ℕ → Heading → StructureWord → DesignFault → Type 0

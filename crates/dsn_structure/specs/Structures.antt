@@ -11,14 +11,14 @@ use Rattle.dsn_lists.specs.declared.faults.DesignKind.TheVariants as kind
 use Rattle.dsn_lists.specs.declared.marks.Mark.{Mark}
 use Rattle.dsn_lists.specs.declared.pcb.Section.TheVariants as sections
 use Rattle.dsn_lists.specs.Results.{Read, ◌>>=◌, wrong, each}
-use Rattle.dsn_lists.specs.Names.{is_among}
 use Rattle.dsn_lists.specs.Words.{Heading, same, head_of, word_of, spare, one_word, name_list}
 use Rattle.dsn_lists.specs.Units.{unit_list, governing}
 use Rattle.dsn_lists.specs.Rules.{no_rule, rule_of}
 use Rattle.dsn_lists.specs.Pcbs.{Spot, design_of, section_in}
-use Rattle.dsn_shapes.specs.declared.rooms.Room.{Room}
+use Rattle.dsn_lists.specs.NewNames.{new_name}
+use Rattle.dsn_shapes.specs.declared.quotas.Quota.{Quota}
 use Rattle.dsn_shapes.specs.Ahead.{names_ahead}
-use Rattle.dsn_shapes.specs.Rooms.{whole_room, room_behind}
+use Rattle.dsn_shapes.specs.Quotas.{whole_quota, quota_behind}
 use Rattle.dsn_shapes.specs.Outlines.{outlines_of}
 use Rattle.dsn_shapes.specs.Keepouts.{keep_kind, keep_shapes}
 use Rattle.dsn_structure.specs.declared.flips.FlipStyle.{FlipStyle}
@@ -64,15 +64,11 @@ flip_of at f = each flip_item None f >>= λ o. stated_flip at o
 unfoldable pub type_item : Bool → ℕ → Forest → Read Bool
 type_item typed at inside = if same (head_of inside).text (codes "type") then (one_word at (head_of inside).args >>= λ _. Ok true) else Ok typed
 
--- a layer's name, which no layer before it has, of at most 32
-unfoldable pub new_layer : List (List ℕ) → Mark → Read (Unit {0})
-new_layer names w = if is_among w.name names then wrong kind.Twice w.at else if nat_lt 31 (length names) then wrong kind.Large w.at else Ok tt
-
 -- the name of a layer behind layers of these names
 unfoldable pub layer_of : List (List ℕ) → ℕ → Forest → Read (List ℕ)
 layer_of names at f = do
   w ← word_of at f
-  _ ← new_layer names w.0
+  _ ← new_name 32 names w.0
   typed ← each type_item false w.1
   if typed then Ok w.0.name else wrong kind.Form at
 
@@ -95,13 +91,13 @@ abbrev pub with_outlines : LengthUnit → Structure → ℕ → Forest → Read 
 with_outlines u s at f = outlines_of u s.outline at f >>= λ areas. Ok (record s { outline = areas })
 
 -- the structure with one more keepout, where there is room for it
-abbrev pub put_keep : ℕ → Structure → KeepKind → List Shape → Option Room → Read Structure
+abbrev pub put_keep : ℕ → Structure → KeepKind → List Shape → Option Quota → Read Structure
 put_keep at s k ss None = wrong kind.Large at
-put_keep at s k ss (Some room) = Ok (record s { keeps = s.keeps ++ Keep k ss ∷ []; room = room })
+put_keep at s k ss (Some quota) = Ok (record s { keeps = s.keeps ++ Keep k ss ∷ []; quota = quota })
 
 -- the structure with one more keepout, which may name layers of these names
 abbrev pub with_keep : LengthUnit → List (List ℕ) → Structure → KeepKind → ℕ → Forest → Read Structure
-with_keep u names s k at f = keep_shapes u names at f >>= λ ss. put_keep at s k ss (room_behind s.room ss)
+with_keep u names s k at f = keep_shapes u names at f >>= λ ss. put_keep at s k ss (quota_behind s.quota ss)
 
 abbrev pub keep_word : Option KeepKind → StructureWord
 keep_word None = words.Other
@@ -135,7 +131,7 @@ unfoldable pub structure_item : LengthUnit → List (List ℕ) → Structure →
 structure_item u names s at inside = structure_list u names s at (head_of inside) (structure_word (head_of inside).text)
 
 abbrev pub no_structure : Structure
-no_structure = record { layers = []; vias = []; rule = no_rule; flip = None; outline = []; keeps = []; room = whole_room }
+no_structure = record { layers = []; vias = []; rule = no_rule; flip = None; outline = []; keeps = []; quota = whole_quota }
 
 -- a section with a layer, whose list begins at this byte
 unfoldable pub with_layer : ℕ → Structure → Read Structure

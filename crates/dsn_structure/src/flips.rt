@@ -4,8 +4,8 @@ ghost use Rattle.sexp_text.specs.Shows.{forest};
 ghost use Rattle.dsn_lists.specs.Results.{Tells, each};
 ghost use Rattle.dsn_structure.specs.Structures.{flip_named, flip_list, flip_item, flip_of};
 
-use dsn_lists::{DesignFault, DesignKind, fault, is_word, opening, read_over, word_at};
-use sexp_text::{Cursor, Part, front};
+use dsn_lists::{DesignFault, DesignKind, fault, is_word, next_list, opening, read_over, word_at};
+use sexp_text::Cursor;
 
 /// Whether a part on the back is mirrored before or after it is turned.
 #[derive(Clone, Copy, Debug, PartialEq, Eq)]
@@ -66,20 +66,11 @@ fn read_lists(list: Cursor<'_>) -> Result<Option<FlipStyle>, DesignFault>
 {
     let mut found = None;
     let mut rest = list;
-    'lists: loop {
-        match front(rest) {
-            Part::End => return Ok(found),
-            Part::Word { at, .. } => return Err(fault(DesignKind::Form, at)),
-            Part::List {
-                at,
-                inside,
-                rest: after,
-            } => {
-                found = read_list(found, at, inside)?;
-                rest = after;
-            }
-        }
+    'lists: while let Some((at, inside, after)) = next_list(rest)? {
+        found = read_list(found, at, inside)?;
+        rest = after;
     }
+    Ok(found)
 }
 
 /// The flip style that a `place_control` list states, which begins at this byte.

@@ -1,18 +1,16 @@
 //! The layers of a design.
-ghost use Rattle.std.specs.Prelude.{◌≡◌, ◌<◌, false, length, IfOk, OnOk};
+ghost use Rattle.std.specs.Prelude.{◌≡◌, false, IfOk};
 ghost use Rattle.sexp_text.specs.Shows.{forest};
 ghost use Rattle.dsn_lists.specs.Results.{Tells, Gives, each};
 ghost use Rattle.dsn_lists.specs.Names.{is_among};
-ghost use Rattle.dsn_lists.specs.Words.{marked};
-ghost use Rattle.dsn_structure.specs.Structures.{type_item, new_layer, layer_of, layers_with};
+ghost use Rattle.dsn_structure.specs.Structures.{type_item, layer_of, layers_with};
 
 use dsn_lists::{
-    DesignFault, DesignKind, Found, NameSet, ReadWhy, fault, is_word, only_word, opening, word_at,
+    DesignFault, DesignKind, NameSet, ReadWhy, check_new, fault, is_word, next_list, only_word,
+    opening, word_at,
 };
-use sexp_text::{Cursor, Part, front};
-
-/// How many layers a design may have.
-const LAYERS: usize = 32;
+use row_lists::LAYER_LIMIT;
+use sexp_text::Cursor;
 
 #[tactic(auto, unfolding(crate::specs::Structures::type_item))]
 fn read_list(typed: bool, at: u32, inside: Cursor<'_>) -> Result<bool, DesignFault>
@@ -33,35 +31,11 @@ fn read_lists(list: Cursor<'_>) -> Result<bool, DesignFault>
 {
     let mut typed = false;
     let mut rest = list;
-    'lists: loop {
-        match front(rest) {
-            Part::End => return Ok(typed),
-            Part::Word { at, .. } => return Err(fault(DesignKind::Form, at)),
-            Part::List {
-                at,
-                inside,
-                rest: after,
-            } => {
-                typed = read_list(typed, at, inside)?;
-                rest = after;
-            }
-        }
+    'lists: while let Some((at, inside, after)) = next_list(rest)? {
+        typed = read_list(typed, at, inside)?;
+        rest = after;
     }
-}
-
-#[tactic(auto, unfolding(crate::specs::Structures::new_layer))]
-fn check_name(names: &NameSet, word: Found<'_>) -> Result<(), DesignFault>
-    ensures told { Tells (λ x. x) result (new_layer names.now (marked word.entry)) }
-    ensures fresh { OnOk result (is_among word.entry.text.now names.now ≡ false) }
-    ensures few { OnOk result (length names.now < 32) }
-{
-    if names.contains(word.text) {
-        return Err(fault(DesignKind::Twice, word.at));
-    }
-    if names.len() >= LAYERS {
-        return Err(fault(DesignKind::Large, word.at));
-    }
-    Ok(())
+    Ok(typed)
 }
 
 // The name of a layer that none of these has.
@@ -71,7 +45,7 @@ fn layer_name<'a>(names: &NameSet, at: u32, args: Cursor<'a>) -> Result<&'a [u8]
     ensures fresh { IfOk result (λ x. is_among x.now names.now ≡ false) }
 {
     let (word, rest) = word_at(at, args)?;
-    check_name(names, word)?;
+    check_new(names, LAYER_LIMIT, word)?;
     if !read_lists(rest)? {
         return Err(fault(DesignKind::Form, at));
     }

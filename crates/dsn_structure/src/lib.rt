@@ -7,6 +7,3 @@ mod structure;
 
 pub use flips::{FlipStyle, flip_at};
 pub use structure::{Structure, read_structure};
-
-#[cfg(test)]
-mod tests;

@@ -7,7 +7,7 @@ ghost use Rattle.dsn_lists.specs.Pcbs.{spotted};
 ghost use Rattle.dsn_structure.specs.Structures.{with_vias, with_rule, with_outlines, put_keep, with_keep, keep_word, area_word, structure_word, all_layers, structure_item, no_structure, with_layer, structure_at, structure_of};
 ghost use Rattle.sexp_text.specs.Nodes.{size};
 ghost use Rattle.dsn_lists.specs.declared.faults.DesignFault.{DesignFault};
-ghost use Rattle.dsn_shapes.specs.Rooms.{room_behind};
+ghost use Rattle.dsn_shapes.specs.Quotas.{quota_behind};
 ghost use Rattle.dsn_structure.specs.Meaning.{HasStructure, StructureFault, WhyNot};
 ghost use Rattle.dsn_structure.specs.Limits.{IsFitStructure};
 
@@ -17,12 +17,12 @@ use area_geometry::Shapes;
 use board_items::{Item, Items, KeepKind};
 use board_rules::Areas;
 use dsn_lists::{
-    DesignKind, Marks, NameSet, Place, ReadWhy, Rule, Section, all_names, fault, is_word, opening,
-    read_rule, section_of, title_of, unit_at, unit_for,
+    DesignKind, Marks, NameSet, Place, ReadWhy, Rule, Section, all_names, is_word, next_list,
+    opening, read_rule, refused, section_of, title_of, unit_at, unit_for,
 };
-use dsn_shapes::{Room, add_outlines, keep_at, keep_kind, names_ahead, room_behind, whole_room};
+use dsn_shapes::{Quota, add_outlines, keep_at, keep_kind, names_ahead, quota_behind, whole_quota};
 use row_lists::Row;
-use sexp_text::{Cursor, Part, Tree, Unit, front};
+use sexp_text::{Cursor, Tree, Unit};
 use std::alloc::Global;
 
 /// The structure of a board.
@@ -41,7 +41,7 @@ pub struct Structure {
     /// The keepouts, in the order of the text.
     pub keeps: Items,
     /// How many items and points may come behind the keepouts.
-    pub room: Room,
+    pub quota: Quota,
 }
 
 // What a list of the section is.
@@ -120,7 +120,7 @@ fn add_rule(unit: Unit, s: Structure, args: Cursor<'_>) -> Result<Structure, Rea
         flip,
         outline,
         keeps,
-        room,
+        quota,
     } = s;
     let rule = read_rule(unit, rule, args)?;
     Ok(Structure {
@@ -130,7 +130,7 @@ fn add_rule(unit: Unit, s: Structure, args: Cursor<'_>) -> Result<Structure, Rea
         flip,
         outline,
         keeps,
-        room,
+        quota,
     })
 }
 
@@ -154,16 +154,16 @@ fn put_keep(
     s: Structure,
     kind: KeepKind,
     shapes: Shapes,
-    room: Option<Room>,
+    quota: Option<Quota>,
 ) -> Result<Structure, ReadWhy>
-    ensures { Gives (λ x. x) result (put_keep at s kind shapes room) }
+    ensures { Gives (λ x. x) result (put_keep at s kind shapes quota) }
 {
-    let Some(room) = room else {
-        return Err(ReadWhy::from(fault(DesignKind::Large, at)));
+    let Some(quota) = quota else {
+        return Err(refused(DesignKind::Large, at));
     };
     let mut s = s;
     s.keeps.push(Item::Keep { kind, shapes })?;
-    s.room = room;
+    s.quota = quota;
     Ok(s)
 }
 
@@ -179,8 +179,8 @@ fn add_keep(
     ensures { Gives (λ x. x) result (with_keep unit layers.now s kind at (forest args.entry)) }
 {
     let shapes = keep_at(alloc, unit, layers, at, args)?;
-    let room = room_behind(s.room, shapes.as_slice());
-    put_keep(at, s, kind, shapes, room)
+    let quota = quota_behind(s.quota, shapes.as_slice());
+    put_keep(at, s, kind, shapes, quota)
 }
 
 #[tactic(auto, unfolding(crate::specs::Structures::structure_item))]
@@ -204,7 +204,7 @@ fn read_list(
         StructureWord::Unit => {
             unit_at(at, head.args)?;
         }
-        StructureWord::Resolution => return Err(ReadWhy::from(fault(DesignKind::Unit, head.at))),
+        StructureWord::Resolution => return Err(refused(DesignKind::Unit, head.at)),
         StructureWord::Boundary => return add_boundary(alloc, unit, s, at, head.args),
         StructureWord::Keep(kind) => return add_keep(alloc, unit, layers, s, kind, at, head.args),
         StructureWord::Other => (),
@@ -224,20 +224,11 @@ fn read_lists(
 {
     let mut s = s;
     let mut rest = list;
-    'lists: loop {
-        match front(rest) {
-            Part::End => return Ok(s),
-            Part::Word { at, .. } => return Err(ReadWhy::from(fault(DesignKind::Form, at))),
-            Part::List {
-                at,
-                inside,
-                rest: after,
-            } => {
-                s = read_list(alloc, unit, layers, s, at, inside)?;
-                rest = after;
-            }
-        }
+    'lists: while let Some((at, inside, after)) = next_list(rest)? {
+        s = read_list(alloc, unit, layers, s, at, inside)?;
+        rest = after;
     }
+    Ok(s)
 }
 
 // A section with a layer.
@@ -246,7 +237,7 @@ fn with_layer(at: u32, s: Structure) -> Result<Structure, ReadWhy>
     ensures { Gives (λ x. x) result (with_layer at s) }
 {
     if s.layers.is_empty() {
-        return Err(ReadWhy::from(fault(DesignKind::Missing, at)));
+        return Err(refused(DesignKind::Missing, at));
     }
     Ok(s)
 }
@@ -275,7 +266,7 @@ fn empty_structure(alloc: Global) -> Structure
         flip: None,
         outline: Row::new(alloc),
         keeps: Row::new(alloc),
-        room: whole_room(),
+        quota: whole_quota(),
     }
 }
 

@@ -1,18 +1,15 @@
-use Rattle.std.proofs.Common.{subst, Result}
-use Rattle.dsn_lists.specs.declared.faults.DesignFault.{DesignFault}
-use Rattle.dsn_lists.specs.Results.{Gives}
-use Rattle.dsn_library.specs.declared.library.Library.{Library}
-use Rattle.dsn_library.proofs.LibraryWhole.{has_again, why_again, is_found, is_fault}
+use Rattle.dsn_lists.proofs.Whole.{is_found, is_fault, is_given}
+use Rattle.dsn_library.proofs.LibraryWhole.{has_found, has_again, why_found, why_again}
 use Rattle.dsn_library.proofs.library.read_library.Goals as goal
 
 pub returns-clause-found : goal.returns-clause-found
-returns-clause-found c = is_found _ _ c.section.result c.section.ensures
+returns-clause-found c = is_found _ _ c.section.result (has_found _ _) c.section.ensures
 
 pub returns-clause-only : goal.returns-clause-only
-returns-clause-only c = λ l h. subst (λ (x : Result Library DesignFault). Gives (λ (l : Library). l) c.section.result x) (has_again _ _ l h) c.section.ensures
+returns-clause-only c = λ x h. is_given c.section.result _ _ c.section.ensures (has_again _ _ x h)
 
 pub returns-clause-fault : goal.returns-clause-fault
-returns-clause-fault c = is_fault _ _ c.section.result c.section.ensures
+returns-clause-fault c = is_fault _ _ c.section.result tt (why_found _ _) c.section.ensures
 
 pub returns-clause-first : goal.returns-clause-first
-returns-clause-first c = λ e h. subst (λ (x : Result Library DesignFault). Gives (λ (l : Library). l) c.section.result x) (why_again _ _ e h) c.section.ensures
+returns-clause-first c = λ e h. is_given c.section.result _ _ c.section.ensures (why_again _ _ e h)

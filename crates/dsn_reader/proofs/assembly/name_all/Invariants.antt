@@ -1,5 +1,5 @@
 use Rattle.std.proofs.Common.{◌≡◌, ◌≤◌, ◌++◌, suc, Some, length, drop}
-use Rattle.dsn_library.specs.Networks.{classed}
+use Rattle.dsn_network.specs.Networks.{classed}
 use Rattle.dsn_reader.proofs.assembly.name_all.Given as goal
 
 abbrev pub invariant-loop-i : goal.invariant-loop-i

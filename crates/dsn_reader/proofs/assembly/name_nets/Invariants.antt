@@ -1,5 +1,5 @@
 use Rattle.std.proofs.Common.{◌≡◌, ◌≤◌, ◌++◌, suc, Some, length, drop}
-use Rattle.dsn_library.specs.Networks.{named_in}
+use Rattle.dsn_network.specs.Networks.{named_in}
 use Rattle.dsn_reader.proofs.assembly.name_nets.Given as goal
 
 abbrev pub invariant-loop-mark : goal.invariant-loop-mark

@@ -1,18 +1,15 @@
-use Rattle.std.proofs.Common.{subst, Result}
-use Rattle.dsn_lists.specs.declared.faults.DesignFault.{DesignFault}
-use Rattle.dsn_lists.specs.Results.{Gives}
-use Rattle.dsn_structure.specs.declared.structure.Structure.{Structure}
-use Rattle.dsn_structure.proofs.Whole.{has_again, why_again, is_found, is_fault}
+use Rattle.dsn_lists.proofs.Whole.{is_found, is_fault, is_given}
+use Rattle.dsn_structure.proofs.Whole.{has_found, has_again, why_found, why_again}
 use Rattle.dsn_structure.proofs.structure.read_structure.Goals as goal
 
 pub returns-clause-found : goal.returns-clause-found
-returns-clause-found c = is_found _ c.section.result c.section.ensures
+returns-clause-found c = is_found _ _ c.section.result (has_found _) c.section.ensures
 
 pub returns-clause-only : goal.returns-clause-only
-returns-clause-only c = λ s h. subst (λ (x : Result Structure DesignFault). Gives (λ (s : Structure). s) c.section.result x) (has_again _ s h) c.section.ensures
+returns-clause-only c = λ x h. is_given c.section.result _ _ c.section.ensures (has_again _ x h)
 
 pub returns-clause-fault : goal.returns-clause-fault
-returns-clause-fault c = is_fault _ c.section.result c.section.ensures
+returns-clause-fault c = is_fault _ _ c.section.result tt (why_found _) c.section.ensures
 
 pub returns-clause-first : goal.returns-clause-first
-returns-clause-first c = λ e h. subst (λ (x : Result Structure DesignFault). Gives (λ (s : Structure). s) c.section.result x) (why_again _ e h) c.section.ensures
+returns-clause-first c = λ e h. is_given c.section.result _ _ c.section.ensures (why_again _ e h)

@@ -1,7 +1,0 @@
-use Rattle.dsn_library.specs.NetworkParts.{references}
-use Rattle.dsn_library.specs.NetworkMeaning.{section}
-use Rattle.dsn_library.proofs.PinLists.{net_is}
-use Rattle.dsn_library.proofs.laws.a_pin_has_the_net_that_names_it.Goals as goal
-
-pub returns : goal.returns
-returns c = λ f p l n pin net h. net_is p l (references (section f).args) n.pins pin net h.2.pins

@@ -1,0 +1,10 @@
+pub mod ClassLists
+pub mod ClassOf
+pub mod NamedPins
+pub mod NetLists
+pub mod NetworkMeaning
+pub mod NetworkParts
+pub mod Networks
+pub mod PinOf
+pub mod References
+pub mod Limits

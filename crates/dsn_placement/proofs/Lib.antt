@@ -1,0 +1,12 @@
+pub mod PlaceAdding
+pub mod PlaceComponentFaults
+pub mod PlaceComponentLaws
+pub mod PlaceFits
+pub mod PlaceFlipLaws
+pub mod PlacePartLaws
+pub mod PlaceSiteLaws
+pub mod PlacementLaws
+pub mod PlacementWhole
+pub mod PoseLaws
+pub mod PoseListLaws
+pub mod FitShapes

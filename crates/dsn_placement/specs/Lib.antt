@@ -1,0 +1,9 @@
+pub mod Components
+pub mod PlaceComponents
+pub mod PlaceFlips
+pub mod PlaceLimits
+pub mod PlaceParts
+pub mod PlaceSites
+pub mod PlacementMeaning
+pub mod Placements
+pub mod PoseLists

@@ -1,5 +1,0 @@
-use Rattle.dsn_reader.proofs.Laws.{one_design}
-use Rattle.dsn_reader.proofs.reader.one_design.Goals as goal
-
-pub returns : goal.returns
-returns c = one_design
