@@ -1,11 +1,14 @@
 pub mod Asks
 pub mod Breaks
-pub mod Complete
+pub mod CheckEnded
+pub mod Checked
+pub mod Ended
+pub mod Excluded
 pub mod Files
 pub mod Journals
 pub mod Loads
-pub mod Pieces
 pub mod Runs
+pub mod Scripts
 pub mod Sinks
 pub mod Steps
 pub mod Stores
@@ -13,4 +16,3 @@ pub mod Tells
 pub mod Tolds
 pub mod Unique
 pub mod Words
-pub mod Checked

@@ -1,123 +1,168 @@
--- What is known of the inputs from what was found of their files.
-use Rattle.std.proofs.Common.{◌≡◌, ℕ, ◌≤◌, List, length, Option, Some, None, Err, sym, ap, ◌∙◌, subst, inl, inr}
+-- What is known of the inputs from the bytes that were read of their files.
+use Rattle.std.proofs.Common.{◌≡◌, ℕ, ◌<◌, ◌≤◌, List, [], ◌∷◌, ◌++◌, length, Option, Some, None, sym, ap, ◌∙◌, append_assoc, length-append, arith, inl, inr}
+use Rattle.std.proofs.lemmas.List.{append-nil, take_all}
 use Rattle.std.specs.Prelude.{IfSome}
-use Rattle.layout_io.specs.Told.{Disk, Told, bytes_of}
+use Rattle.layout_io.specs.Told.{Disk, Told, FilesTold, bytes_of}
 use Rattle.layout_io.specs.declared.stored.Stored.{Stored}
-use Rattle.board_rules.specs.declared.design.Design.{Design as Board}
-use Rattle.board_rules.specs.Designs.{IsSound}
+use Rattle.board_rules.specs.declared.design.Design.{Design}
 use Rattle.session_wire.specs.declared.steps.ScriptStep.{ScriptStep}
 use Rattle.dsn_lists.specs.declared.faults.DesignFault.{DesignFault}
-use Rattle.dsn_reader.specs.Design.{IsFirstFault}
-use Rattle.layout_server.specs.Outside.{IsFound, IsWithin, HasRead, SameFiles}
-use Rattle.layout_server.specs.Causes.{ReadCause}
-use Rattle.layout_server.specs.Headline.{HasDesign, HasClean, HasUnclean, IsClean, AreLeast, HasFault, HasSteps, HasBadLine}
-use Rattle.layout_server.specs.Loads.{CleanCause, GivesDesign, GivesFault, DesignCause, GivesSteps, GivesBad, ScriptCause, DesignStop, ScriptStop, LoadStop, IsReadDesign}
-use Rattle.layout_server.specs.declared.outside.Found.{Found}
-use Rattle.layout_server.specs.declared.outside.Found.TheVariants.{Whole, Long}
+use Rattle.dsn_reader.specs.Design.{IsDesign, IsFirstFault}
+use Rattle.layout_server.specs.Outside.{SameFiles, IsFound, OnlyRead, ShortRead, ReadStop}
+use Rattle.layout_server.specs.Scripts.{IsScript, IsBad}
+use Rattle.layout_server.specs.Inputs.{HasDesign, HasClean, HasFault, HasUnclean, IsClean, AreLeast, HasSteps, HasBadLine}
+use Rattle.layout_server.specs.Loads.{DesignCause, ScriptCause, CleanCause, DesignStop, ScriptStop, LoadStop}
 use Rattle.layout_server.specs.declared.stop.Stop.{Stop}
-use Rattle.layout_server.specs.declared.stop.Stop.TheVariants.{Design, Read, Write, Script, Unclean, Memory}
-use Rattle.layout_server.proofs.Tolds.{told_weaker}
+use Rattle.layout_server.specs.declared.stop.Stop.TheVariants as stops
+use Rattle.layout_server.proofs.Asks.{asked_less, asked_after}
+use Rattle.layout_server.proofs.Tolds.{told_then}
 
-pub fault_given : (found : Found) (bytes text : List ℕ) (e : DesignFault) → found ≡ Whole bytes → text ≡ bytes → IsFirstFault text e → GivesFault found e
-fault_given found bytes text e is same first = subst (λ (f : Found). GivesFault f e) (ap Whole same ∙ sym is) first
+-- all of the names were asked for, and memory ran out then
+pub short_of : (names : List (List ℕ)) (f g : FilesTold) → OnlyRead names f g → ShortRead names f g
+short_of names f g only = record { kept = only.kept; asked = (length names, only.asked ∙ ap (λ (x : List (List ℕ)). f.asked ++ x) (sym (take_all (length names) names (omega arith)))); reads = only.reads; writes = only.writes }
 
--- a design within the limits, with few loaded items
-pub read_of : (d : Board) → IsSound d.parts → length d.parts.items ≤ 200000 → IsReadDesign d
-read_of d sound few = record { sound = sound; few = few }
+-- ---- one file
 
-pub told_design : (a b : Option Disk) (name : List ℕ) (most : ℕ) (found : Found) (design : Board) → Told a b (IsFound name most found) → GivesDesign found design → Told a b (λ d e. HasDesign name design d)
-told_design a b name most (Whole bytes) design told given = told_weaker a b (HasRead name bytes) (λ d e. HasDesign name design d) told (λ d e r. (bytes, r.bytes_are, given))
-told_design a b name most Long design told given = absurd given
+-- bytes that are not too many are all of the file's
+found_whole : (name bytes : List ℕ) (P : List ℕ → Type 0) (a b : Option Disk) → Told a b (IsFound name 67108864 bytes) → length bytes ≤ 67108864 → P bytes → IfSome a (λ d. (all : List ℕ) × (bytes_of d.files name ≡ Some all) × P all)
+found_whole name bytes P None b told short is = tt
+found_whole name bytes P (Some d) None told short is = absurd told
+found_whole name bytes P (Some d) (Some e) told short is =
+    let all : bytes ++ told.more ≡ bytes = ap (λ (x : List ℕ). bytes ++ x) (told.whole short) ∙ append-nil bytes in
+    (bytes, told.bytes_are ∙ ap Some all, is)
 
-has_fault : (a b : Option Disk) (name : List ℕ) (found : Found) (e : DesignFault) → Told a b (IsFound name 67108864 found) → IsWithin 67108864 found → GivesFault found e → IfSome a (HasFault name e)
-has_fault None b name found e told few given = tt
-has_fault (Some d) None name found e told few given = absurd told
-has_fault (Some d) (Some f) name (Whole bytes) e told few given = (bytes, told.bytes_are, inr (few, given))
-has_fault (Some d) (Some f) name Long e told few given = (told.bytes, told.bytes_are, inl (told.more, given))
+-- of too many bytes more may follow
+found_long : (name bytes : List ℕ) (P : List ℕ → Type 0) (a b : Option Disk) → Told a b (IsFound name 67108864 bytes) → ((more : List ℕ) → P (bytes ++ more)) → IfSome a (λ d. (all : List ℕ) × (bytes_of d.files name ≡ Some all) × P all)
+found_long name bytes P None b told is = tt
+found_long name bytes P (Some d) None told is = absurd told
+found_long name bytes P (Some d) (Some e) told is = (bytes ++ told.more, told.bytes_are, is told.more)
 
-pub design_stop : (a b : Option Disk) (name : List ℕ) (found : Found) (stop : Stop) → Told a b (IsFound name 67108864 found) → IsWithin 67108864 found → DesignCause found stop → DesignStop name a stop
-design_stop a b name found (Design e) told few cause = has_fault a b name found e told few cause
-design_stop a b name found Read told few cause = absurd cause
-design_stop a b name found Write told few cause = absurd cause
-design_stop a b name found (Script k) told few cause = absurd cause
-design_stop a b name found (Unclean x y) told few cause = absurd cause
-design_stop a b name found Memory told few cause = tt
+pub found_design : (name bytes : List ℕ) (design : Design) (a b : Option Disk) → Told a b (IsFound name 67108864 bytes) → IsDesign bytes design → IfSome a (HasDesign name design)
+found_design name bytes design a b told is = found_whole name bytes (λ all. IsDesign all design) a b told is.short is
 
--- a design that was loaded and is clean
-pub told_clean : (a b : Option Disk) (name : List ℕ) (design : Board) → Told a b (λ d e. HasDesign name design d) → IsClean design → Told a b (λ d e. HasClean name design d)
-told_clean a b name design told clean = told_weaker a b (λ d e. HasDesign name design d) (λ d e. HasClean name design d) told (λ d e has. (has, clean))
+pub found_steps : (name bytes : List ℕ) (steps : List ScriptStep) (a b : Option Disk) → Told a b (IsFound name 67108864 bytes) → IsScript bytes steps → IfSome a (HasSteps name steps)
+found_steps name bytes steps a b told is = found_whole name bytes (λ all. IsScript all steps) a b told is.short is
 
-has_unclean : (a b : Option Disk) (name : List ℕ) (design : Board) (x y : ℕ) → Told a b (λ d e. HasDesign name design d) → AreLeast design x y → IfSome a (HasUnclean name x y)
-has_unclean None b name design x y told least = tt
-has_unclean (Some d) None name design x y told least = absurd told
-has_unclean (Some d) (Some e) name design x y told least = (design, told, least)
+longer : (bytes more : List ℕ) → 67108864 < length bytes → 67108864 < length (bytes ++ more)
+longer bytes more long = omega (arith, long, length-append bytes more)
 
--- a design that was loaded and isn't clean
-pub unclean_stop : (a b : Option Disk) (name : List ℕ) (design : Board) (stop : Stop) → Told a b (λ d e. HasDesign name design d) → CleanCause design stop → DesignStop name a stop
-unclean_stop a b name design (Design e) told cause = absurd cause
-unclean_stop a b name design Read told cause = absurd cause
-unclean_stop a b name design Write told cause = absurd cause
-unclean_stop a b name design (Script k) told cause = absurd cause
-unclean_stop a b name design (Unclean x y) told cause = has_unclean a b name design x y told cause
-unclean_stop a b name design Memory told cause = absurd cause
+found_fault : (name bytes : List ℕ) (e : DesignFault) (a b : Option Disk) → Told a b (IsFound name 67108864 bytes) → IsFirstFault bytes e → IfSome a (HasFault name e)
+found_fault name bytes e a b told (inl h) = found_long name bytes (λ all. IsFirstFault all e) a b told (λ more. inl (record { long = longer bytes more h.long; fault = h.fault }))
+found_fault name bytes e a b told (inr (inl h)) = found_whole name bytes (λ all. IsFirstFault all e) a b told h.short (inr (inl h))
+found_fault name bytes e a b told (inr (inr h)) = found_whole name bytes (λ all. IsFirstFault all e) a b told h.short (inr (inr h))
 
--- no read failed where a design isn't clean
-pub clean_read : (design : Board) (stop : Stop) (before now : ℕ) → CleanCause design stop → now ≡ before → ReadCause {T = Board} before now (Err stop)
-clean_read design (Design e) before now cause same = absurd cause
-clean_read design Read before now cause same = absurd cause
-clean_read design Write before now cause same = absurd cause
-clean_read design (Script k) before now cause same = absurd cause
-clean_read design (Unclean x y) before now cause same = same
-clean_read design Memory before now cause same = absurd cause
+found_bad : (name bytes : List ℕ) (k : ℕ) (a b : Option Disk) → Told a b (IsFound name 67108864 bytes) → IsBad bytes k → IfSome a (HasBadLine name k)
+found_bad name bytes k a b told (inl h) = found_long name bytes (λ all. IsBad all k) a b told (λ more. inl (longer bytes more h.0, h.1))
+found_bad name bytes k a b told (inr h) = found_whole name bytes (λ all. IsBad all k) a b told h.0 (inr h)
 
-pub told_steps : (a b : Option Disk) (name : List ℕ) (most : ℕ) (found : Found) (steps : List ScriptStep) → Told a b (IsFound name most found) → GivesSteps found steps
-    → Told a b (λ d e. HasSteps name steps d)
-told_steps a b name most (Whole text) steps told given = told_weaker a b (HasRead name text) (λ d e. HasSteps name steps d) told (λ d e r. (text, r.bytes_are, given))
-told_steps a b name most Long steps told given = absurd given
+-- the bytes of a design were read, and give none
+pub design_stop : (stop : Stop) (name bytes : List ℕ) (f g : FilesTold) → Told f.disk g.disk (IsFound name 67108864 bytes) → OnlyRead (name ∷ []) f g → DesignCause bytes stop → DesignStop name f g stop
+design_stop (stops.Design e) name bytes f g told only cause = (found_fault name bytes e f.disk g.disk told cause, only)
+design_stop stops.Memory name bytes f g told only cause = short_of (name ∷ []) f g only
+design_stop stops.Read name bytes f g told only cause = absurd cause
+design_stop stops.Write name bytes f g told only cause = absurd cause
+design_stop (stops.Script k) name bytes f g told only cause = absurd cause
+design_stop (stops.Unclean x y) name bytes f g told only cause = absurd cause
 
-bad_line : (a b : Option Disk) (name : List ℕ) (found : Found) (k : ℕ) → Told a b (IsFound name 67108864 found) → GivesBad found k → IfSome a (HasBadLine name k)
-bad_line None b name found k told given = tt
-bad_line (Some d) None name found k told given = absurd told
-bad_line (Some d) (Some e) name (Whole text) k told given = (text, told.bytes_are, given)
-bad_line (Some d) (Some e) name Long k told given = (told.bytes, told.bytes_are, inl (told.more, given))
+pub design_unread : (stop : Stop) (name : List ℕ) (f g : FilesTold) → ReadStop (name ∷ []) f g stop → DesignStop name f g stop
+design_unread stops.Read name f g cause = cause
+design_unread stops.Memory name f g cause = cause
+design_unread (stops.Design e) name f g cause = absurd cause
+design_unread stops.Write name f g cause = absurd cause
+design_unread (stops.Script k) name f g cause = absurd cause
+design_unread (stops.Unclean x y) name f g cause = absurd cause
 
-pub script_stop : (a b : Option Disk) (name : List ℕ) (found : Found) (stop : Stop) → Told a b (IsFound name 67108864 found) → ScriptCause found stop → ScriptStop name a stop
-script_stop a b name found (Design e) told cause = absurd cause
-script_stop a b name found Read told cause = absurd cause
-script_stop a b name found Write told cause = absurd cause
-script_stop a b name found (Script k) told cause = bad_line a b name found k told cause
-script_stop a b name found (Unclean x y) told cause = absurd cause
-script_stop a b name found Memory told cause = tt
+-- the bytes of a script were read, and give no steps
+pub script_stop : (stop : Stop) (name bytes : List ℕ) (f g : FilesTold) → Told f.disk g.disk (IsFound name 67108864 bytes) → OnlyRead (name ∷ []) f g → ScriptCause bytes stop → ScriptStop name f g stop
+script_stop (stops.Script k) name bytes f g told only cause = (found_bad name bytes k f.disk g.disk told cause, only)
+script_stop stops.Memory name bytes f g told only cause = short_of (name ∷ []) f g only
+script_stop stops.Read name bytes f g told only cause = absurd cause
+script_stop stops.Write name bytes f g told only cause = absurd cause
+script_stop (stops.Design e) name bytes f g told only cause = absurd cause
+script_stop (stops.Unclean x y) name bytes f g told only cause = absurd cause
 
-same_bytes : (name text : List ℕ) (d e : Disk) → e.files ≡ d.files → bytes_of e.files name ≡ Some text → bytes_of d.files name ≡ Some text
-same_bytes name text d e same is = ap (λ (files : List Stored). bytes_of files name) (sym same) ∙ is
+pub script_unread : (stop : Stop) (name : List ℕ) (f g : FilesTold) → ReadStop (name ∷ []) f g stop → ScriptStop name f g stop
+script_unread stops.Read name f g cause = cause
+script_unread stops.Memory name f g cause = cause
+script_unread (stops.Design e) name f g cause = absurd cause
+script_unread stops.Write name f g cause = absurd cause
+script_unread (stops.Script k) name f g cause = absurd cause
+script_unread (stops.Unclean x y) name f g cause = absurd cause
+
+-- ---- the design's test
+
+pub clean_found : (name : List ℕ) (design : Design) (a : Option Disk) → IfSome a (HasDesign name design) → IsClean design → IfSome a (HasClean name design)
+clean_found name design None has clean = tt
+clean_found name design (Some d) has clean = (has, clean)
+
+unclean_found : (name : List ℕ) (design : Design) (x y : ℕ) (a : Option Disk) → IfSome a (HasDesign name design) → AreLeast design x y → IfSome a (HasUnclean name x y)
+unclean_found name design x y None has least = tt
+unclean_found name design x y (Some d) has least = (design, has, least)
+
+pub unclean_stop : (stop : Stop) (name : List ℕ) (design : Design) (f g : FilesTold) → IfSome f.disk (HasDesign name design) → OnlyRead (name ∷ []) f g → CleanCause design stop → DesignStop name f g stop
+unclean_stop (stops.Unclean x y) name design f g has only cause = (unclean_found name design x.0 y.0 f.disk has cause, only)
+unclean_stop (stops.Design e) name design f g has only cause = absurd cause
+unclean_stop stops.Read name design f g has only cause = absurd cause
+unclean_stop stops.Write name design f g has only cause = absurd cause
+unclean_stop (stops.Script k) name design f g has only cause = absurd cause
+unclean_stop stops.Memory name design f g has only cause = absurd cause
+
+-- ---- both files
+
+pub design_first : (stop : Stop) (design script : List ℕ) (f g : FilesTold) → DesignStop design f g stop → LoadStop design script f g stop
+design_first (stops.Design e) design script f g h = h
+design_first stops.Read design script f g h = inl h
+design_first stops.Write design script f g h = absurd h
+design_first (stops.Script k) design script f g h = absurd h
+design_first (stops.Unclean x y) design script f g h = h
+design_first stops.Memory design script f g h = record { kept = h.kept; asked = asked_less (design ∷ []) (script ∷ []) f.asked g.asked h.asked; reads = h.reads; writes = h.writes }
+
+same_files : (a b c : Option Disk) → Told a b SameFiles → Told b c SameFiles → Told a c SameFiles
+same_files a b c p q = told_then a b c SameFiles SameFiles SameFiles p q (λ d e f x y. y ∙ x)
+
+both_asked : (x y : List ℕ) (a b c : List (List ℕ)) → b ≡ a ++ x ∷ [] → c ≡ b ++ y ∷ [] → c ≡ a ++ x ∷ y ∷ []
+both_asked x y a b c e f = f ∙ ap (λ (names : List (List ℕ)). names ++ y ∷ []) e ∙ append_assoc a (x ∷ []) (y ∷ [])
+
+pub both_read : (design script : List ℕ) (f g h : FilesTold) → OnlyRead (design ∷ []) f g → OnlyRead (script ∷ []) g h → OnlyRead (design ∷ script ∷ []) f h
+both_read design script f g h p q = record {
+  kept = same_files f.disk g.disk h.disk p.kept q.kept;
+  asked = both_asked design script f.asked g.asked h.asked p.asked q.asked;
+  reads = q.reads ∙ p.reads;
+  writes = q.writes ∙ p.writes;
+}
+
+same_bytes : (name : List ℕ) (P : List ℕ → Type 0) (a b : Option Disk) → Told a b SameFiles → IfSome b (λ d. (all : List ℕ) × (bytes_of d.files name ≡ Some all) × P all) → IfSome a (λ d. (all : List ℕ) × (bytes_of d.files name ≡ Some all) × P all)
+same_bytes name P None b kept has = tt
+same_bytes name P (Some d) None kept has = absurd kept
+same_bytes name P (Some d) (Some e) kept has = (has.0, ap (λ (files : List Stored). bytes_of files name) (sym kept) ∙ has.1, has.2)
+
+both_hold : (a : Option Disk) (P Q : Disk → Type 0) → IfSome a P → IfSome a Q → IfSome a (λ d. P d × Q d)
+both_hold None P Q p q = tt
+both_hold (Some d) P Q p q = (p, q)
 
 -- the script was read behind the design, of which no file was changed
-pub both_inputs : (a b c : Option Disk) (first second : List ℕ) (design : Board) (steps : List ScriptStep) → Told a b (λ d e. HasClean first design d) → Told a b SameFiles → Told b c (λ d e. HasSteps second steps d)
-    → Told a c (λ d e. HasClean first design d × HasSteps second steps d)
-both_inputs None b c first second design steps p q r = tt
-both_inputs (Some d) None c first second design steps p q r = absurd p
-both_inputs (Some d) (Some e) None first second design steps p q r = absurd r
-both_inputs (Some d) (Some e) (Some f) first second design steps p q r = (p, (r.0, same_bytes second r.0 d e q r.1, r.2))
+pub both_inputs : (design script : List ℕ) (d : Design) (steps : List ScriptStep) (a b : Option Disk) → IfSome a (HasClean design d) → Told a b SameFiles → IfSome b (HasSteps script steps) → IfSome a (λ disk. HasClean design d disk × HasSteps script steps disk)
+both_inputs design script d steps a b clean kept has = both_hold a (HasClean design d) (HasSteps script steps) clean (same_bytes script (λ text. IsScript text steps) a b kept has)
 
-behind : (a b : Option Disk) (first second : List ℕ) (design : Board) (k : ℕ) → Told a b (λ d e. HasClean first design d) → Told a b SameFiles → IfSome b (HasBadLine second k)
-    → IfSome a (λ disk. HasClean first design disk × HasBadLine second k disk)
-behind None b first second design k p q r = tt
-behind (Some d) None first second design k p q r = absurd p
-behind (Some d) (Some e) first second design k p q r = (p, (r.0, same_bytes second r.0 d e q r.1, r.2))
-
-pub script_stop_behind : (a b : Option Disk) (first second : List ℕ) (design : Board) (stop : Stop) → Told a b (λ d e. HasClean first design d) → Told a b SameFiles → ScriptStop second b stop → LoadStop first second a stop
-script_stop_behind a b first second design (Design e) p q cause = absurd cause
-script_stop_behind a b first second design Read p q cause = tt
-script_stop_behind a b first second design Write p q cause = absurd cause
-script_stop_behind a b first second design (Script k) p q cause = (design, behind a b first second design k p q cause)
-script_stop_behind a b first second design (Unclean x y) p q cause = absurd cause
-script_stop_behind a b first second design Memory p q cause = tt
-
-pub design_stop_first : (a : Option Disk) (first second : List ℕ) (stop : Stop) → DesignStop first a stop → LoadStop first second a stop
-design_stop_first a first second (Design e) cause = cause
-design_stop_first a first second Read cause = tt
-design_stop_first a first second Write cause = absurd cause
-design_stop_first a first second (Script k) cause = absurd cause
-design_stop_first a first second (Unclean x y) cause = cause
-design_stop_first a first second Memory cause = tt
+pub script_behind : (stop : Stop) (design script : List ℕ) (d : Design) (f g h : FilesTold) → IfSome f.disk (HasClean design d) → OnlyRead (design ∷ []) f g → ScriptStop script g h stop → LoadStop design script f h stop
+script_behind stops.Read design script d f g h clean only stop = inr (
+  d,
+  clean,
+  record {
+    kept = same_files f.disk g.disk h.disk only.kept stop.kept;
+    asked = both_asked design script f.asked g.asked h.asked only.asked stop.asked;
+    reads = omega (arith, only.reads, stop.reads);
+    writes = stop.writes ∙ only.writes;
+  },
+)
+script_behind (stops.Script k) design script d f g h clean only stop =
+    ((d, both_hold f.disk (HasClean design d) (HasBadLine script k) clean (same_bytes script (λ text. IsBad text k) f.disk g.disk only.kept stop.0)), both_read design script f g h only stop.1)
+script_behind stops.Memory design script d f g h clean only stop = record {
+  kept = same_files f.disk g.disk h.disk only.kept stop.kept;
+  asked = asked_after (design ∷ []) (script ∷ []) f.asked g.asked h.asked only.asked stop.asked;
+  reads = stop.reads ∙ only.reads;
+  writes = stop.writes ∙ only.writes;
+}
+script_behind (stops.Design e) design script d f g h clean only stop = absurd stop
+script_behind stops.Write design script d f g h clean only stop = absurd stop
+script_behind (stops.Unclean x y) design script d f g h clean only stop = absurd stop

@@ -1,9 +1,12 @@
 -- What a sink was given over several calls.
-use Rattle.std.proofs.Common.{◌≡◌, ℕ, ◌+◌, ◌≤◌, List, [], ◌++◌, length, min, take, Option, Some, None, refl, sym, ap, ◌∙◌, append_assoc, arith}
+use Rattle.std.proofs.Common.{◌≡◌, ◌==◌, ℕ, false, ◌<◌, List, [], ◌∷◌, ◌++◌, length, take, Option, Some, None, Err, refl, sym, ap, ◌∙◌, append_assoc, arith, length-append}
 use Rattle.std.specs.Io.KnownBytes.{Appends, Keeps}
-use Rattle.std.proofs.lemmas.List.{append-nil, take_at, take-append-le, take_min}
-use Rattle.std.proofs.Math.Seq.{take-append-add}
-use Rattle.layout_server.specs.Outside.{Begins}
+use Rattle.std.proofs.lemmas.List.{append-nil, take_at}
+use Rattle.layout_io.specs.Causes.{HasCause, HasShortage}
+use Rattle.layout_io.specs.Told.{SinkTold}
+use Rattle.layout_io.specs.declared.fault.IoFault.{IoFault}
+use Rattle.layout_io.specs.declared.fault.IoFault.TheVariants.{Failed, Memory}
+use Rattle.layout_server.specs.Puts.{IsCut, MetFault, MetShortage}
 
 pub appends_none : (o : Option (List ℕ)) → Appends o o []
 appends_none None = tt
@@ -42,23 +45,43 @@ wrote_all text rest a b w none =
     let whole : text ≡ w.done = w.parts ∙ ap (λ (x : List ℕ). w.done ++ x) none ∙ append-nil w.done in
     rw whole w.appended
 
-pub wrote_front : (text rest : List ℕ) (a b : Option (List ℕ)) → Wrote text rest a b → Begins text a b
-wrote_front text rest a b w =
-    let front : take (length w.done) text ≡ w.done = ap (take (length w.done)) w.parts ∙ take_at w.done rest (length w.done) refl in
-    (length w.done, rw front w.appended)
-
 pub wrote_kept : (text rest : List ℕ) (a b c : Option (List ℕ)) → Wrote text rest a b → Keeps b c → Wrote text rest a c
 wrote_kept text rest a b c w k = record { done = w.done; parts = w.parts; appended = appends_kept a b c w.done w.appended k }
 
--- a text of two parts begins with a front of the first
-pub begins_first : (x y : List ℕ) (a b : Option (List ℕ)) → Begins x a b → Begins (x ++ y) a b
-begins_first x y a b h =
-    let short : min h.0 (length x) ≤ length x = omega arith in
-    let same : take (min h.0 (length x)) (x ++ y) ≡ take h.0 x = take-append-le (min h.0 (length x)) x y short ∙ take_min h.0 x in
-    (min h.0 (length x), rw same h.1)
+-- what was written before a write that took nothing is a front of the text, and not the whole
+pub wrote_cut : (text rest : List ℕ) (o p q : SinkTold) → Wrote text rest o.written p.written → Keeps p.written q.written → 0 < length rest → IsCut text o q
+wrote_cut text rest o p q w kept some =
+    let now = wrote_kept text rest o.written p.written q.written w kept in
+    let front : take (length now.done) text ≡ now.done = ap (take (length now.done)) now.parts ∙ take_at now.done rest (length now.done) refl in
+    record { n = length now.done; less = omega (arith, some, ap length now.parts, length-append now.done rest); written = rw front now.appended }
 
--- behind the whole first part it goes on with a front of the second
-pub begins_second : (x y : List ℕ) (a b c : Option (List ℕ)) → Appends a b x → Begins y b c → Begins (x ++ y) a c
-begins_second x y a b c p h =
-    let same : take (length x + h.0) (x ++ y) ≡ x ++ take h.0 y = take-append-add x y h.0 in
-    (length x + h.0, rw same (appends_then a b c x (take h.0 y) p h.1))
+-- one fault, or one want of memory, behind writes that met none
+pub fault_then : (o p q : SinkTold) → p.faults ≡ o.faults → p.shortages ≡ o.shortages → HasCause {T = ℕ} p.faults q.faults (Err Failed) → HasShortage {T = ℕ} p.shortages q.shortages (Err Failed) → MetFault o q
+fault_then o p q faults shortages cause stood = record {
+  rose = omega (arith, faults, cause.0);
+  once = omega (arith, faults, cause.2);
+  later = omega (arith, faults, cause.1);
+  shortages = stood ∙ shortages;
+}
+
+pub shortage_then : (o p q : SinkTold) → p.faults ≡ o.faults → p.shortages ≡ o.shortages → HasCause {T = ℕ} p.faults q.faults (Err Memory) → HasShortage {T = ℕ} p.shortages q.shortages (Err Memory) → MetShortage o q
+shortage_then o p q faults shortages stood cause = record {
+  rose = omega (arith, shortages, cause.0);
+  once = omega (arith, shortages, cause.2);
+  faults = stood ∙ faults;
+}
+
+-- a rest that isn't empty
+pub some_left : (rest : List ℕ) → false ≡ (length rest == 0) → 0 < length rest
+some_left [] e = absurd cc
+some_left (x ∷ xs) e = omega arith
+
+pub put_fault : (text rest : List ℕ) (o p q : SinkTold) (e : IoFault) → e ≡ Failed → Wrote text rest o.written p.written → Keeps p.written q.written → 0 < length rest → p.faults ≡ o.faults → p.shortages ≡ o.shortages
+    → HasCause {T = ℕ} p.faults q.faults (Err e) → HasShortage {T = ℕ} p.shortages q.shortages (Err e) → IsCut text o q × MetFault o q
+put_fault text rest o p q Failed is w kept some faults shortages cause stood = (wrote_cut text rest o p q w kept some, fault_then o p q faults shortages cause stood)
+put_fault text rest o p q Memory is w kept some faults shortages cause stood = absurd cc
+
+pub put_shortage : (text rest : List ℕ) (o p q : SinkTold) (e : IoFault) → e ≡ Memory → Wrote text rest o.written p.written → Keeps p.written q.written → 0 < length rest → p.faults ≡ o.faults → p.shortages ≡ o.shortages
+    → HasCause {T = ℕ} p.faults q.faults (Err e) → HasShortage {T = ℕ} p.shortages q.shortages (Err e) → IsCut text o q × MetShortage o q
+put_shortage text rest o p q Memory is w kept some faults shortages stood cause = (wrote_cut text rest o p q w kept some, shortage_then o p q faults shortages stood cause)
+put_shortage text rest o p q Failed is w kept some faults shortages stood cause = absurd cc

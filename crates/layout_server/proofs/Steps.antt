@@ -1,12 +1,13 @@
 -- The first line of a script, and the lines so far.
-use Rattle.std.proofs.Common.{◌≡◌, ◌≢◌, ℕ, ◌<◌, ◌≤◌, List, [], ◌∷◌, ◌++◌, length, refl, sym, ap, ◌∙◌, append_assoc, arith, length-append, inl, inr}
+use Rattle.std.proofs.Common.{◌≡◌, ◌≢◌, ◌⊎◌, ℕ, zero, suc, ◌+◌, ◌<◌, ◌≤◌, List, [], ◌∷◌, ◌++◌, length, refl, sym, ap, ◌∙◌, append_assoc, arith, length-append, inl, inr}
+use Rattle.std.proofs.lemmas.List.{append-nil}
 use Rattle.std.specs.List.{AllByRecursion, flat_map}
 use Rattle.session_wire.specs.declared.steps.ScriptStep.{ScriptStep}
 use Rattle.session_wire.specs.Lines.{step_text, step_line}
 use Rattle.session_wire.specs.Steps.{IsLine, IsStep}
 use Rattle.session_wire.proofs.LineFeeds.{step_is_one_line}
 use Rattle.session_wire.proofs.StepTexts.{one_step}
-use Rattle.layout_server.specs.Scripts.{IsScript, IsBad, IsBadRest}
+use Rattle.layout_server.specs.Scripts.{IsScript, IsBad, IsBadRest, IsFirstBad}
 use Rattle.layout_server.specs.Lines.{HasNoStep}
 use Rattle.layout_server.proofs.Breaks.{one_line}
 
@@ -82,3 +83,75 @@ not_bad text steps k is (inl long) = absurd (omega (arith, long.0, is.short))
 not_bad text steps k is (inr (short, bad)) =
     let (others, parts, rest, served) = behind_front bad.before steps bad.rest bad.formed is.formed (sym bad.parts ∙ is.spelled) bad.some in
     bad_rest bad.before others bad.rest bad.bad rest served bad.some (omega (arith, is.few, ap length parts))
+
+-- behind a shorter list of lines, a longer one goes on with a line of its own
+front_less : (a b : List ScriptStep) (r s : List ℕ) → AllByRecursion IsStep a → AllByRecursion IsStep b → flat_map step_line a ++ r ≡ flat_map step_line b ++ s → length a < length b
+    → (t : ScriptStep) × (more : List ℕ) × IsStep t × (r ≡ step_line t ++ more)
+front_less [] [] r s p q e less = absurd (omega (arith, less))
+front_less [] (t ∷ ts) r s p q e less = (t, flat_map step_line ts ++ s, q.0, e ∙ append_assoc (step_line t) (flat_map step_line ts) s)
+front_less (x ∷ xs) [] r s p q e less = absurd (omega (arith, less))
+front_less (x ∷ xs) (t ∷ ts) r s p q e less =
+    let left : flat_map step_line (x ∷ xs) ++ r ≡ step_text x ++ 10 ∷ (flat_map step_line xs ++ r) =
+    append_assoc (step_line x) (flat_map step_line xs) r ∙ append_assoc (step_text x) (10 ∷ []) (flat_map step_line xs ++ r) in
+    let right : flat_map step_line (t ∷ ts) ++ s ≡ step_text t ++ 10 ∷ (flat_map step_line ts ++ s) =
+    append_assoc (step_line t) (flat_map step_line ts) s ∙ append_assoc (step_text t) (10 ∷ []) (flat_map step_line ts ++ s) in
+    let lines = one_line (step_text x) (step_text t) (flat_map step_line xs ++ r) (flat_map step_line ts ++ s) (step_is_one_line x p.0) (step_is_one_line t q.0) (sym left ∙ e ∙ right) in
+    front_less xs ts r s p.1 q.1 lines.1 (omega (arith, less))
+
+not_less : (a b : List ScriptStep) (r s : List ℕ) → AllByRecursion IsStep a → AllByRecursion IsStep b → flat_map step_line a ++ r ≡ flat_map step_line b ++ s → IsBadRest a r → length b ≤ 500 → length a < length b → ⊥
+not_less a b r s p q e (inl full) few less = absurd (omega (arith, full, few, less))
+not_less a b r s p q e (inr none) few less = let (t, more, is, spelled) = front_less a b r s p q e less in none t more is spelled
+
+one_is_less : (m n : ℕ) → (m < n) ⊎ (n ≤ m) → (suc m < suc n) ⊎ (suc n ≤ suc m)
+one_is_less m n (inl less) = inl (omega (arith, less))
+one_is_less m n (inr more) = inr (omega (arith, more))
+
+less_or_not : (m n : ℕ) → (m < n) ⊎ (n ≤ m)
+less_or_not m zero = inr (omega arith)
+less_or_not zero (suc n) = inl (omega arith)
+less_or_not (suc m) (suc n) = one_is_less m n (less_or_not m n)
+
+same_of : (m n : ℕ) → (m < n → ⊥) → (n < m → ⊥) → (m < n) ⊎ (n ≤ m) → (n < m) ⊎ (m ≤ n) → m + 1 ≡ n + 1
+same_of m n p q (inl less) k = absurd (p less)
+same_of m n p q (inr most) (inl less) = absurd (q less)
+same_of m n p q (inr most) (inr least) = omega (arith, most, least)
+
+same_length : (m n : ℕ) → (m < n → ⊥) → (n < m → ⊥) → m + 1 ≡ n + 1
+same_length m n p q = same_of m n p q (less_or_not m n) (less_or_not n m)
+
+two_bad : (text : List ℕ) (j k : ℕ) (a : IsFirstBad text j) (b : IsFirstBad text k) → (length a.before < length b.before → ⊥) → (length b.before < length a.before → ⊥) → j ≡ k
+two_bad text j k a b p q = a.number ∙ same_length (length a.before) (length b.before) p q ∙ sym b.number
+
+-- a text has one bad line at most
+pub one_bad : (text : List ℕ) (j k : ℕ) → IsBad text j → IsBad text k → j ≡ k
+one_bad text j k (inl a) (inl b) = a.1 ∙ sym b.1
+one_bad text j k (inl a) (inr b) = absurd (omega (arith, a.0, b.0))
+one_bad text j k (inr a) (inl b) = absurd (omega (arith, a.0, b.0))
+one_bad text j k (inr (short, a)) (inr (short', b)) =
+    two_bad text j k a b (not_less a.before b.before a.rest b.rest a.formed b.formed (sym a.parts ∙ b.parts) a.bad b.few) (not_less b.before a.before b.rest a.rest b.formed a.formed (sym b.parts ∙ a.parts) b.bad a.few)
+
+-- where no line can follow, there is a bad one
+no_line_follows : (text : List ℕ) (before : List ScriptStep) (rest : List ℕ) → 0 < length rest → length text ≤ 67108864 → AllByRecursion IsStep before → length before ≤ 500 → text ≡ flat_map step_line before ++ rest
+    → ((k : ℕ) → IsBad text k → ⊥) → ((s : ScriptStep) (more : List ℕ) → length before < 500 → IsStep s → rest ≡ step_line s ++ more → ⊥) → (length before < 500) ⊎ (500 ≤ length before) → ⊥
+no_line_follows text before rest some short formed few parts no_bad again (inl less) =
+    no_bad (length before + 1) (inr (short, record { before = before; rest = rest; formed = formed; few = few; parts = parts; some = some; bad = inr (λ s more is e. again s more less is e); number = refl }))
+no_line_follows text before rest some short formed few parts no_bad again (inr full) =
+    no_bad (length before + 1) (inr (short, record { before = before; rest = rest; formed = formed; few = few; parts = parts; some = some; bad = inl (omega (arith, full, few)); number = refl }))
+
+-- lines in front, and a rest of at most n bytes
+neither_behind : (n : ℕ) (text : List ℕ) (before : List ScriptStep) (rest : List ℕ) → length rest ≤ n → length text ≤ 67108864 → AllByRecursion IsStep before → length before ≤ 500 → text ≡ flat_map step_line before ++ rest
+    → ((steps : List ScriptStep) → IsScript text steps → ⊥) → ((k : ℕ) → IsBad text k → ⊥) → ⊥
+neither_behind n text before [] fits short formed few parts no_script no_bad = no_script before (record { short = short; formed = formed; spelled = parts ∙ append-nil (flat_map step_line before); few = few })
+neither_behind zero text before (x ∷ xs) fits short formed few parts no_script no_bad = absurd (omega (arith, fits))
+neither_behind (suc n) text before (x ∷ xs) fits short formed few parts no_script no_bad =
+    no_line_follows text before (x ∷ xs) (omega arith) short formed few parts no_bad
+    (λ s more less is e. neither_behind n text (before ++ s ∷ []) more (omega (arith, fits, ap length e, length-append (step_line s) more, length-append (step_text s) (10 ∷ []))) short (served_more before s formed is) (omega (arith, less, length-append before (s ∷ []))) (text_more before s text (x ∷ xs) more parts e) no_script no_bad)
+    (less_or_not (length before) 500)
+
+neither_of : (text : List ℕ) → ((steps : List ScriptStep) → IsScript text steps → ⊥) → ((k : ℕ) → IsBad text k → ⊥) → (67108864 < length text) ⊎ (length text ≤ 67108864) → ⊥
+neither_of text no_script no_bad (inl long) = no_bad 0 (inl (long, refl))
+neither_of text no_script no_bad (inr short) = neither_behind (length text) text [] text (omega arith) short tt (omega arith) refl no_script no_bad
+
+-- no text is neither a script nor one with a bad line
+pub not_neither : (text : List ℕ) → ((steps : List ScriptStep) → IsScript text steps → ⊥) → ((k : ℕ) → IsBad text k → ⊥) → ⊥
+not_neither text no_script no_bad = neither_of text no_script no_bad (less_or_not 67108864 (length text))

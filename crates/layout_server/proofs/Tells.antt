@@ -1,36 +1,79 @@
--- Lines that are written whole, but for a fault or want of memory.
-use Rattle.std.proofs.Common.{◌≡◌, ℕ, ◌≤◌, Bool, false, true, List, ◌++◌, Option, Result, Ok, Err, sym, subst, ◌∙◌, arith}
-use Rattle.std.specs.Prelude.{OnOk}
-use Rattle.std.specs.Io.KnownBytes.{Appends}
-use Rattle.layout_io.specs.Causes.{Rose, HasCause, RanOut}
-use Rattle.layout_io.specs.declared.fault.IoFault.{IoFault}
-use Rattle.layout_io.specs.declared.fault.IoFault.TheVariants.{Failed, Memory}
-use Rattle.layout_server.specs.Outside.{Begins}
-use Rattle.layout_server.specs.Headline.{Tells}
-use Rattle.layout_server.proofs.Sinks.{appends_then, begins_first, begins_second}
+-- Lines that are written by parts.
+use Rattle.std.proofs.Common.{◌≡◌, ℕ, ◌+◌, List, ◌++◌, length, take, Result, Ok, Err, ◌∙◌, arith, inl, inr, length-append}
+use Rattle.std.specs.Prelude.{OnOk, IfErr}
+use Rattle.std.proofs.lemmas.List.{take-append-le}
+use Rattle.std.proofs.Math.Seq.{take-append-add}
+use Rattle.layout_io.specs.Told.{SinkTold}
+use Rattle.layout_server.specs.Puts.{IsPut, IsCut, MetFault, MetShortage, PutStop}
+use Rattle.layout_server.specs.Stops.{Tells}
+use Rattle.layout_server.specs.declared.stop.Stop.{Stop}
+use Rattle.layout_server.specs.declared.stop.Stop.TheVariants as stops
+use Rattle.layout_server.proofs.Sinks.{appends_then}
 
-whole_of : (r : Result (Unit {0}) IoFault) (line : List ℕ) (a b : Option (List ℕ)) (m n : ℕ) (x y : Bool) → OnOk r (Appends a b line) → HasCause m n r → RanOut x y r → (Rose m n → ⊥) → y ≡ false → Appends a b line
-whole_of (Ok u) line a b m n x y ok cause memory none stood = ok
-whole_of (Err Failed) line a b m n x y ok cause memory none stood = absurd (none cause.0)
-whole_of (Err Memory) line a b m n x y ok cause memory none stood = let no_ : false ≡ true = sym stood ∙ memory in absurd cc
+-- a text that wasn't written whole is a line that was cut
+cut_line : (e : Stop) (line : List ℕ) (o p : SinkTold) → PutStop line o p e → Tells line o p
+cut_line stops.Write line o p stop = inr (stop.0, inl stop.1)
+cut_line stops.Memory line o p stop = inr (stop.0, inr stop.1)
+cut_line (stops.Design e) line o p stop = absurd stop
+cut_line stops.Read line o p stop = absurd stop
+cut_line (stops.Script k) line o p stop = absurd stop
+cut_line (stops.Unclean a b) line o p stop = absurd stop
 
--- one write of a whole line
-pub tells_line : (r : Result (Unit {0}) IoFault) (line : List ℕ) (a b : Option (List ℕ)) (m n : ℕ) (x y : Bool) → OnOk r (Appends a b line) → Begins line a b → HasCause m n r → RanOut x y r → Tells line a b m n y
-tells_line r line a b m n x y ok begins cause memory = record { begins = begins; whole = whole_of r line a b m n x y ok cause memory }
+-- one writing of a whole line
+pub tells_line : (r : Result (Unit {0}) Stop) (line : List ℕ) (o p : SinkTold) → OnOk r (IsPut line o p) → IfErr r (PutStop line o p) → Tells line o p
+tells_line (Ok u) line o p put stop = inl put
+tells_line (Err e) line o p put stop = cut_line e line o p stop
 
-pub later_of : (r : Result (Unit {0}) IoFault) (m n : ℕ) → HasCause m n r → m ≤ n
-later_of (Ok u) m n cause = omega (arith, cause)
-later_of (Err Failed) m n cause = cause.1
-later_of (Err Memory) m n cause = omega (arith, cause)
+-- a text of two parts is cut where its first part is
+pub cut_first : (line rest : List ℕ) (o p : SinkTold) → IsCut line o p → IsCut (line ++ rest) o p
+cut_first line rest o p h =
+    let same : take h.n (line ++ rest) ≡ take h.n line = take-append-le h.n line rest (omega (arith, h.less)) in
+    record { n = h.n; less = omega (arith, h.less, length-append line rest); written = rw same h.written }
+
+-- behind the whole first part it is cut where its second part is
+pub cut_second : (line rest : List ℕ) (o p q : SinkTold) → IsPut line o p → IsCut rest p q → IsCut (line ++ rest) o q
+cut_second line rest o p q first h =
+    let same : take (length line + h.n) (line ++ rest) ≡ line ++ take h.n rest = take-append-add line rest h.n in
+    record {
+      n = length line + h.n;
+      less = omega (arith, h.less, length-append line rest);
+      written = rw same (appends_then o.written p.written q.written line (take h.n rest) first.written h.written);
+    }
+
+pub put_both : (line rest : List ℕ) (o p q : SinkTold) → IsPut line o p → IsPut rest p q → IsPut (line ++ rest) o q
+put_both line rest o p q first second = record {
+  written = appends_then o.written p.written q.written line rest first.written second.written;
+  faults = second.faults ∙ first.faults;
+  shortages = second.shortages ∙ first.shortages;
+}
+
+-- one fault, or one want of memory, behind a part that was written whole
+pub fault_behind : (line : List ℕ) (o p q : SinkTold) → IsPut line o p → MetFault p q → MetFault o q
+fault_behind line o p q first met = record {
+  rose = omega (arith, first.faults, met.rose);
+  once = omega (arith, first.faults, met.once);
+  later = omega (arith, first.faults, met.later);
+  shortages = met.shortages ∙ first.shortages;
+}
+
+pub shortage_behind : (line : List ℕ) (o p q : SinkTold) → IsPut line o p → MetShortage p q → MetShortage o q
+shortage_behind line o p q first met = record {
+  rose = omega (arith, first.shortages, met.rose);
+  once = omega (arith, first.shortages, met.once);
+  faults = met.faults ∙ first.faults;
+}
 
 -- the first part of a line wasn't written whole
-pub tells_first : (e : IoFault) (line rest : List ℕ) (a b : Option (List ℕ)) (m n : ℕ) (x y : Bool) → Begins line a b → HasCause {T = Unit {0}} m n (Err e) → RanOut {T = Unit {0}} x y (Err e) → Tells (line ++ rest) a b m n y
-tells_first Failed line rest a b m n x y begins cause memory = record { begins = begins_first line rest a b begins; whole = λ none stood. absurd (none cause.0) }
-tells_first Memory line rest a b m n x y begins cause memory = record { begins = begins_first line rest a b begins; whole = λ none stood. let no_ : false ≡ true = sym stood ∙ memory in absurd cc }
+pub tells_first : (e : Stop) (line rest : List ℕ) (o p : SinkTold) → PutStop line o p e → Tells (line ++ rest) o p
+tells_first stops.Write line rest o p stop = inr (cut_first line rest o p stop.0, inl stop.1)
+tells_first stops.Memory line rest o p stop = inr (cut_first line rest o p stop.0, inr stop.1)
+tells_first (stops.Design e) line rest o p stop = absurd stop
+tells_first stops.Read line rest o p stop = absurd stop
+tells_first (stops.Script k) line rest o p stop = absurd stop
+tells_first (stops.Unclean a b) line rest o p stop = absurd stop
 
 -- the rest of a line behind its first part
-pub tells_rest : (line rest : List ℕ) (a b c : Option (List ℕ)) (m n o : ℕ) (y : Bool) → Appends a b line → n ≡ m → Tells rest b c n o y → Tells (line ++ rest) a c m o y
-tells_rest line rest a b c m n o y first same t = record {
-  begins = begins_second line rest a b c first t.begins;
-  whole = λ none stood. appends_then a b c line rest first (t.whole (λ (rose : Rose n o). none (subst (λ (k : ℕ). Rose k o) same rose)) stood);
-}
+pub tells_rest : (line rest : List ℕ) (o p q : SinkTold) → IsPut line o p → Tells rest p q → Tells (line ++ rest) o q
+tells_rest line rest o p q first (inl put) = inl (put_both line rest o p q first put)
+tells_rest line rest o p q first (inr (cut, inl met)) = inr (cut_second line rest o p q first cut, inl (fault_behind line o p q first met))
+tells_rest line rest o p q first (inr (cut, inr met)) = inr (cut_second line rest o p q first cut, inr (shortage_behind line o p q first met))

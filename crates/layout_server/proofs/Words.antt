@@ -5,7 +5,7 @@ use Rattle.std.specs.Str.{bytes_eq}
 use Rattle.std.specs.declared.alloc.Global.{Global}
 use Rattle.std.proofs.lemmas.Slice.Eq.{bytes_eq-Decides}
 use Rattle.std.proofs.lemmas.List.{length-map}
-use Rattle.layout_server.specs.Words.{IsReplay, IsCheck, Asked, names_behind, names_in, three, text_at, texts}
+use Rattle.layout_server.specs.Words.{IsReplay, IsCheck, Asked, named, names_behind, names_in, three, text_at, texts}
 
 pub word_text : (words : List (String Global)) (i : ℕ) (w : String Global) → i < length words → w ≡ get_or words i w → text_at (texts words) i ≡ string_bytes w
 word_text [] i w lt e = absurd (omega arith)
@@ -47,3 +47,7 @@ asked_three words old new four asked = subst (λ (names : List (List ℕ)). Aske
 
 pub asked_one : (words : List (String Global)) (old new : List (List ℕ)) → length words ≡ 2 → Asked (text_at (texts words) 1 ∷ []) old new → Asked (names_behind (texts words)) old new
 asked_one words old new two asked = subst (λ (names : List (List ℕ)). Asked names old new) (one_behind (texts words) (length-map words string_bytes ∙ two)) asked
+
+-- the names that the words hold
+pub same_names : (words : List (List ℕ)) (a b c : List ℕ) → a ≡ text_at words 1 → b ≡ text_at words 2 → c ≡ text_at words 3 → named a b c ≡ names_in words
+same_names words a b c e f g = ap (λ (x : List ℕ). named x b c) e ∙ ap (λ (x : List ℕ). named (text_at words 1) x c) f ∙ ap (λ (x : List ℕ). named (text_at words 1) (text_at words 2) x) g

@@ -1,149 +1,90 @@
--- What `replay` leaves at its end, and what at a stop.
-use Rattle.std.specs.Prelude.{◌≡◌, ◌⊎◌, ◌<◌, ◌≤◌, ℕ, Bool, false, List, [], length, take, Option, Some, None, Err, IfSome}
-use Rattle.std.specs.Io.KnownBytes.{Appends}
+-- What `replay` leaves at its end, and what at each stop.
+use Rattle.std.specs.Prelude.{◌≡◌, ◌⊎◌, ◌<◌, ℕ, List, [], length, take, Some, IfSome}
 use Rattle.layout_io.specs.Causes.{Rose}
-use Rattle.layout_io.specs.Told.{Disk, Told, SameBut, bytes_of}
-use Rattle.board_rules.specs.declared.design.Design.{Design as Board}
-use Rattle.board_core.specs.Boards.{first_board}
-use Rattle.board_core.specs.Clean.{IsCleanBoard, IsLeastPair}
+use Rattle.layout_io.specs.Told.{Disk, Told, SinkTold, FilesTold, SameBut, bytes_of}
+use Rattle.board_rules.specs.declared.design.Design.{Design}
 use Rattle.session_wire.specs.declared.steps.ScriptStep.{ScriptStep}
-use Rattle.dsn_lists.specs.declared.faults.DesignFault.{DesignFault}
-use Rattle.dsn_reader.specs.Design.{IsDesign}
-use Rattle.layout_server.specs.Words.{Names}
-use Rattle.layout_server.specs.Outside.{Begins}
-use Rattle.layout_server.specs.Scripts.{IsScript, IsBad}
+use Rattle.layout_server.specs.Words.{Names, Asked, three}
+use Rattle.layout_server.specs.Outside.{SameFiles}
+use Rattle.layout_server.specs.Puts.{IsPut, IsCut, MetFault, MetShortage}
 use Rattle.layout_server.specs.Replays.{IsRunOf}
-use Rattle.layout_server.specs.Faults.{IsFault}
-use Rattle.layout_server.specs.Causes.{WriteCause, status_of, stop_line}
+use Rattle.layout_server.specs.Inputs.{HasInputs}
+use Rattle.layout_server.specs.Loads.{LoadStop}
 use Rattle.layout_server.specs.declared.stop.Stop.{Stop}
-use Rattle.layout_server.specs.declared.stop.Stop.TheVariants.{Design, Read, Write, Script, Unclean, Memory}
+use Rattle.layout_server.specs.declared.stop.Stop.TheVariants as stops
 
--- the file under the name spells this design
-abbrev pub HasDesign : List ℕ → Board → Disk → Type 0
-HasDesign name d disk = (bytes : List ℕ) × (bytes_of disk.files name ≡ Some bytes) × IsDesign bytes d
-
--- no two loaded items of the design are too near to each other
-abbrev pub IsClean : Board → Type 0
-IsClean d = IsCleanBoard d.parts (first_board d.parts).live
-
--- a and b are the least two loaded items of the design that are too near
-abbrev pub AreLeast : Board → ℕ → ℕ → Type 0
-AreLeast d a b = IsLeastPair d.parts (first_board d.parts).live a b
-
--- the file under the name spells this design, and it is clean
-abbrev pub HasClean : List ℕ → Board → Disk → Type 0
-HasClean name d disk = HasDesign name d disk × IsClean d
-
--- the file under the name spells a design that isn't clean, by these two items
-abbrev pub HasUnclean : List ℕ → ℕ → ℕ → Disk → Type 0
-HasUnclean name a b disk = (d : Board) × HasDesign name d disk × AreLeast d a b
-
--- the file under the name has this fault
-abbrev pub HasFault : List ℕ → DesignFault → Disk → Type 0
-HasFault name e disk = (bytes : List ℕ) × (bytes_of disk.files name ≡ Some bytes) × IsFault bytes e
-
--- the file under the name is the lines of these steps
-abbrev pub HasSteps : List ℕ → List ScriptStep → Disk → Type 0
-HasSteps name steps disk = (text : List ℕ) × (bytes_of disk.files name ≡ Some text) × IsScript text steps
-
--- the file under the name is no script, and this is told
-abbrev pub HasBadLine : List ℕ → ℕ → Disk → Type 0
-HasBadLine name k disk = (text : List ℕ) × (bytes_of disk.files name ≡ Some text) × IsBad text k
-
--- both files have their readings, and the design is clean
-abbrev pub HasInputs : Names → Board → List ScriptStep → Disk → Type 0
-HasInputs names d steps disk = HasClean names.design d disk × HasSteps names.script steps disk
-
--- the session file has these bytes, and other files stayed
+-- the file under the name has these bytes, and other files stayed
 abbrev pub HasSession : List ℕ → List ℕ → Disk → Disk → Type 0
 HasSession name bytes old new = (bytes_of new.files name ≡ Some bytes) × SameBut name old.files new.files
 
--- the output and the session file are those of the script's steps for the design
-pub record Replays (names : Names) (old new : Option Disk) (before after : Option (List ℕ)) : Type 0 where
-  pub design : Board
+-- the inputs under the names, and the output and session text of the steps for the design
+pub record HasRun (names : Names) (f : FilesTold) : Type 0 where
+  pub design : Design
   pub steps : List ScriptStep
   pub output : List ℕ
   pub session : List ℕ
   pub run : IsRunOf design steps output session
-  pub inputs : IfSome old (HasInputs names design steps)
-  pub out : Appends before after output
-  pub file : Told old new (HasSession names.session session)
+  pub inputs : IfSome f.disk (HasInputs names design steps)
 
--- nothing was written, and no file changed
-abbrev pub Untouched : Option Disk → Option Disk → Option (List ℕ) → Option (List ℕ) → Type 0
-Untouched old new before now = (now ≡ before) × Told old new (λ d e. e.files ≡ d.files)
+-- the three names were asked for, and no count of reads rose
+pub record AsksAll (names : Names) (f g : FilesTold) : Type 0 where
+  pub asked : Asked (three names) f.asked g.asked
+  pub reads : g.read_faults ≡ f.read_faults
+
+-- the output and the session file are those of the script's steps for the design, and no count rose
+pub record Replays (names : Names) (f g : FilesTold) (o p : SinkTold) : Type 0 where
+  pub has : HasRun names f
+  pub out : IsPut has.output o p
+  pub file : Told f.disk g.disk (HasSession names.session has.session)
+  pub writes : g.write_faults ≡ f.write_faults
+  pub asks : AsksAll names f g
+
+-- no file changed, and nothing was written
+pub record Untouched (f g : FilesTold) (o p : SinkTold) : Type 0 where
+  pub files : Told f.disk g.disk SameFiles
+  pub out : p ≡ o
 
 -- nothing was written but that the session file was made; it is empty
-abbrev pub OnlyMade : List ℕ → Option Disk → Option Disk → Option (List ℕ) → Option (List ℕ) → Type 0
-OnlyMade name old new before now = (now ≡ before) × Told old new (HasSession name [])
+pub record OnlyMade (name : List ℕ) (f g : FilesTold) (o p : SinkTold) : Type 0 where
+  pub file : Told f.disk g.disk (HasSession name [])
+  pub out : p ≡ o
 
--- the front of a session text of at most m bytes is in the session file
+-- the output is cut, and the session file is empty
+pub record CutOutput (name output : List ℕ) (f g : FilesTold) (o p : SinkTold) : Type 0 where
+  pub out : IsCut output o p
+  pub file : Told f.disk g.disk (HasSession name [])
+
+-- a front of the text is in the session file, and not the whole
 abbrev pub HasFront : List ℕ → List ℕ → ℕ → Disk → Disk → Type 0
 HasFront name session m old new = HasSession name (take m session) old new
 
--- a front of the output was written, and, only behind the whole output, a front of the session text
-pub record PartOfRun (names : Names) (old new : Option Disk) (before now : Option (List ℕ)) : Type 0 where
-  pub design : Board
-  pub steps : List ScriptStep
-  pub output : List ℕ
-  pub session : List ℕ
-  pub run : IsRunOf design steps output session
-  pub inputs : IfSome old (HasInputs names design steps)
-  pub n : ℕ
+-- the output is whole, and the session file is cut
+pub record CutSession (name output session : List ℕ) (f g : FilesTold) (o p : SinkTold) : Type 0 where
+  pub out : IsPut output o p
   pub m : ℕ
-  pub out : Appends before now (take n output)
-  pub file : Told old new (HasFront names.session session m)
-  pub order : n < length output → m ≡ 0
+  pub less : m < length session
+  pub file : Told f.disk g.disk (HasFront name session m)
 
--- what a stop leaves written, before its line
-abbrev pub Leaves : Names → Option Disk → Option Disk → Option (List ℕ) → Option (List ℕ) → Stop → Type 0
-Leaves names old new before now (Design e) = Untouched old new before now
-Leaves names old new before now Read = Untouched old new before now
-Leaves names old new before now Write = Untouched old new before now ⊎ (OnlyMade names.session old new before now ⊎ PartOfRun names old new before now)
-Leaves names old new before now (Script k) = Untouched old new before now
-Leaves names old new before now (Unclean a b) = Untouched old new before now
-Leaves names old new before now Memory = Untouched old new before now ⊎ (OnlyMade names.session old new before now ⊎ PartOfRun names old new before now)
+-- the inputs have their readings
+abbrev pub AreInputs : Names → FilesTold → Type 0
+AreInputs names f = (d : Design) × (steps : List ScriptStep) × IfSome f.disk (HasInputs names d steps)
 
--- why `replay` stops
-abbrev pub StopCause : Names → Option Disk → Stop → Type 0
-StopCause names old (Design e) = IfSome old (HasFault names.design e)
-StopCause names old Read = Unit {0}
-StopCause names old Write = (d : Board) × (steps : List ScriptStep) × IfSome old (HasInputs names d steps)
-StopCause names old (Script k) = (d : Board) × IfSome old (λ disk. HasClean names.design d disk × HasBadLine names.script k disk)
-StopCause names old (Unclean a b) = IfSome old (HasUnclean names.design a b)
-StopCause names old Memory = Unit {0}
+-- a create failed, with nothing written; a write of the output; or one of the session file, behind the whole output
+abbrev pub HasFailedWrite : Names → FilesTold → FilesTold → SinkTold → SinkTold → Type 0
+HasFailedWrite names f g o p =
+    (AreInputs names f × Untouched f g o p × Rose f.write_faults g.write_faults)
+    ⊎ (((r : HasRun names f) × CutOutput names.session r.output f g o p × MetFault o p × (g.write_faults ≡ f.write_faults))
+    ⊎ ((r : HasRun names f) × CutSession names.session r.output r.session f g o p × Rose f.write_faults g.write_faults))
 
--- a line is written, whole unless the sink's count rose or a write met want of memory
-pub record Tells (line : List ℕ) (before after : Option (List ℕ)) (faults_before faults : ℕ) (ran_out : Bool) : Type 0 where
-  pub begins : Begins line before after
-  pub whole : (Rose faults_before faults → ⊥) → ran_out ≡ false → Appends before after line
+-- memory ran out: with nothing written, behind the making of the session file, in the output, or in the session file
+abbrev pub HasShortWrite : Names → FilesTold → FilesTold → SinkTold → SinkTold → Type 0
+HasShortWrite names f g o p =
+    Untouched f g o p
+    ⊎ (OnlyMade names.session f g o p
+    ⊎ (((r : HasRun names f) × CutOutput names.session r.output f g o p × MetShortage o p) ⊎ ((r : HasRun names f) × CutSession names.session r.output r.session f g o p)))
 
--- the counts of failed calls before and after: of the files' creates and writes, and of the sink's writes
-pub record Counts : Type 0 where
-  pub files_before : ℕ
-  pub files_after : ℕ
-  pub out_before : ℕ
-  pub out_after : ℕ
-
-abbrev pub counts : ℕ → ℕ → ℕ → ℕ → Counts
-counts files_before files_after out_before out_after = record { files_before = files_before; files_after = files_after; out_before = out_before; out_after = out_after }
-
--- why a command stopped, what it had left, the sink's count then, and its line
-pub record Stops (cause : Stop → Type 0) (leaves : Option (List ℕ) → Stop → Type 0) (after : Option (List ℕ)) (count : Counts) (ran_out : Bool) (status : ℕ) : Type 0 where
-  pub stop : Stop
-  pub status_is : status ≡ status_of stop
-  pub why : cause stop
-  pub mid : Option (List ℕ)
-  pub left : leaves mid stop
-  pub mid_count : ℕ
-  pub counted : WriteCause {T = Unit {0}} count.files_before count.files_after count.out_before mid_count (Err stop)
-  pub line : Tells (stop_line stop) mid after mid_count count.out_after ran_out
-
--- the files are told, and both inputs have these readings
-abbrev pub HasToldInputs : Names → Board → List ScriptStep → Option Disk → Type 0
-HasToldInputs names d steps None = ⊥
-HasToldInputs names d steps (Some disk) = HasInputs names d steps disk
-
--- the statuses that are given
-abbrev pub IsStatus : ℕ → Type 0
-IsStatus status = status ≤ 7
+-- why `replay` stops, and what it leaves written before the stop's line
+abbrev pub ReplayStop : Names → FilesTold → FilesTold → SinkTold → SinkTold → Stop → Type 0
+ReplayStop names f g o p stops.Write = AsksAll names f g × HasFailedWrite names f g o p
+ReplayStop names f g o p stops.Memory = AsksAll names f g × (g.write_faults ≡ f.write_faults) × HasShortWrite names f g o p
+ReplayStop names f g o p stop = LoadStop names.design names.script f g stop × (p ≡ o)

@@ -1,12 +1,14 @@
 pub mod Words
 pub mod Outside
+pub mod Puts
 pub mod Scripts
 pub mod Lines
 pub mod Faults
+pub mod Inputs
+pub mod Loads
+pub mod Stops
 pub mod Masters
 pub mod Replays
-pub mod Causes
+pub mod Stores
 pub mod Headline
 pub mod Checks
-pub mod Loads
-pub mod Stores

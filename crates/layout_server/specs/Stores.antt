@@ -1,50 +1,22 @@
--- What of the two texts was stored.
-use Rattle.std.specs.Prelude.{◌≡◌, ◌⊎◌, ℕ, ◌<◌, List, length, take, Option}
-use Rattle.std.specs.Io.KnownBytes.{Appends}
-use Rattle.layout_io.specs.Told.{Disk, Told}
-use Rattle.layout_server.specs.Outside.{WroteFirst}
-use Rattle.layout_server.specs.Replays.{IsRunOf}
-use Rattle.layout_server.specs.Headline.{HasSession, HasFront, Untouched, OnlyMade}
-use Rattle.layout_server.specs.declared.load.Loaded.{Loaded}
+-- What of a run's two texts was stored where the storing stops.
+use Rattle.std.specs.Prelude.{◌≡◌, ◌⊎◌, ℕ, List}
+use Rattle.layout_io.specs.Causes.{Rose}
+use Rattle.layout_io.specs.Told.{Told, SinkTold, FilesTold}
+use Rattle.layout_server.specs.Outside.{SameFiles, WroteSome}
+use Rattle.layout_server.specs.Puts.{IsPut, IsCut, MetFault, MetShortage}
 use Rattle.layout_server.specs.declared.stop.Stop.{Stop}
-use Rattle.layout_server.specs.declared.stop.Stop.TheVariants.{Design, Read, Write, Script, Unclean, Memory}
+use Rattle.layout_server.specs.declared.stop.Stop.TheVariants as stops
 
--- why a text was not stored
-abbrev pub WriteFault : Stop → Type 0
-WriteFault (Design e) = ⊥
-WriteFault Read = ⊥
-WriteFault Write = Unit {0}
-WriteFault (Script k) = ⊥
-WriteFault (Unclean a b) = ⊥
-WriteFault Memory = Unit {0}
+-- why the session file was not made: no file changed
+abbrev pub MakeStop : FilesTold → FilesTold → Stop → Type 0
+MakeStop f g stops.Write = Told f.disk g.disk SameFiles × Rose f.write_faults g.write_faults
+MakeStop f g stops.Memory = Told f.disk g.disk SameFiles × (g.write_faults ≡ f.write_faults)
+MakeStop f g _ = ⊥
 
--- fronts of both texts were written: the session's only behind the whole output
-pub record Fronts (output session : List ℕ) (file : ℕ) (old new : Option Disk) (before now : Option (List ℕ)) : Type 0 where
-  pub n : ℕ
-  pub m : ℕ
-  pub out : Appends before now (take n output)
-  pub kept : Told old new (WroteFirst file session m)
-  pub order : n < length output → m ≡ 0
-
--- the run of what was loaded, and fronts of its texts in the sink and under the name
-pub record PartOf (l : Loaded) (name : List ℕ) (old new : Option Disk) (before now : Option (List ℕ)) : Type 0 where
-  pub output : List ℕ
-  pub session : List ℕ
-  pub run : IsRunOf l.design l.steps output session
-  pub n : ℕ
-  pub m : ℕ
-  pub out : Appends before now (take n output)
-  pub file : Told old new (HasFront name session m)
-  pub order : n < length output → m ≡ 0
-
--- what a stop of the storing leaves
-abbrev pub StoreLeaves : Loaded → List ℕ → Option Disk → Option Disk → Option (List ℕ) → Option (List ℕ) → Type 0
-StoreLeaves l name old new before now = Untouched old new before now ⊎ (OnlyMade name old new before now ⊎ PartOf l name old new before now)
-
--- the run of what was loaded, in the sink and under the name
-pub record Stores (l : Loaded) (name : List ℕ) (old new : Option Disk) (before after : Option (List ℕ)) : Type 0 where
-  pub output : List ℕ
-  pub session : List ℕ
-  pub run : IsRunOf l.design l.steps output session
-  pub out : Appends before after output
-  pub file : Told old new (HasSession name session)
+-- why the two texts were not stored: the output is cut and the files stay, or it is whole and the session is cut
+abbrev pub TextsStop : List ℕ → List ℕ → ℕ → FilesTold → FilesTold → SinkTold → SinkTold → Stop → Type 0
+TextsStop output session file f g o p stops.Write =
+    (IsCut output o p × MetFault o p × (g ≡ f)) ⊎ (IsPut output o p × WroteSome file session f g × Rose f.write_faults g.write_faults)
+TextsStop output session file f g o p stops.Memory =
+    (IsCut output o p × MetShortage o p × (g ≡ f)) ⊎ (IsPut output o p × WroteSome file session f g × (g.write_faults ≡ f.write_faults))
+TextsStop output session file f g o p _ = ⊥

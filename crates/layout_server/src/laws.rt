@@ -3,7 +3,7 @@ ghost use Rattle.std.specs.Prelude.{◌≡◌, ℕ, List};
 ghost use Rattle.board_items.specs.declared.history.Entry.{Entry};
 ghost use Rattle.board_rules.specs.declared.design.Design.{Design};
 ghost use Rattle.session_wire.specs.declared.steps.ScriptStep.{ScriptStep};
-ghost use Rattle.layout_server.specs.Scripts.{IsScript, IsBad};
+ghost use Rattle.layout_server.specs.Scripts.{IsScript, IsBad, Event};
 ghost use Rattle.layout_server.specs.Replays.{Serves};
 ghost use Rattle.layout_server.specs.declared.master.Answered.{Answered};
 
@@ -12,12 +12,22 @@ pub fn one_script()
     ensures { (text : List ℕ) (a : List ScriptStep) (b : List ScriptStep) → IsScript text a → IsScript text b → a ≡ b }
 {}
 
-/// Steps have one run at most.
+/// Events have one run at most.
 pub fn one_run()
-    ensures { (d : Design) (old : List Entry) (steps : List ScriptStep) (a : List Answered) (b : List Answered) (j : List Entry) (k : List Entry) → Serves d old steps a j → Serves d old steps b k → (a ≡ b) × (j ≡ k) }
+    ensures { (d : Design) (old : List Entry) (events : List Event) (a : List Answered) (b : List Answered) (j : List Entry) (k : List Entry) → Serves d old events a j → Serves d old events b k → (a ≡ b) × (j ≡ k) }
 {}
 
 /// A script has no bad line.
 pub fn a_script_is_not_bad()
     ensures { (text : List ℕ) (steps : List ScriptStep) (k : ℕ) → IsScript text steps → IsBad text k → ⊥ }
+{}
+
+/// A text that is no script has one bad line at most.
+pub fn one_bad_line()
+    ensures { (text : List ℕ) (j : ℕ) (k : ℕ) → IsBad text j → IsBad text k → j ≡ k }
+{}
+
+/// No text is neither a script nor one with a bad line.
+pub fn a_text_is_a_script_or_bad()
+    ensures { (text : List ℕ) → ((steps : List ScriptStep) → IsScript text steps → ⊥) → ((k : ℕ) → IsBad text k → ⊥) → ⊥ }
 {}

@@ -21,6 +21,8 @@ use run::run;
 use std::process::ExitCode;
 use std::rt::HostRuntime;
 use std::{env, io};
+use stop::Stop;
+use tell::tell_stop;
 
 // The words, without the program's own.
 fn words_of(rt: &HostRuntime) -> io::Result<Vec<String>> {
@@ -32,12 +34,15 @@ fn words_of(rt: &HostRuntime) -> io::Result<Vec<String>> {
 }
 
 fn main(rt: HostRuntime) -> ExitCode {
-    // Without words the answer is `usage`, and so it is for words that aren't UTF-8.
+    let mut out = HostSink::new(&rt);
     let words = match words_of(&rt) {
         Ok(words) => words,
+        Err(fault) if fault.kind() == io::ErrorKind::OutOfMemory => {
+            return ExitCode::from(tell_stop(Stop::Memory, &mut out));
+        }
+        // Words that aren't UTF-8 are of no form.
         Err(_) => Vec::new(rt.alloc()),
     };
     let mut files = HostFiles::new(&rt);
-    let mut out = HostSink::new(&rt);
     ExitCode::from(run(rt.alloc(), &words, &mut files, &mut out))
 }

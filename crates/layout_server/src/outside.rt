@@ -1,34 +1,25 @@
 //! Whole files and texts, by calls that take a part.
-ghost use Rattle.std.specs.Prelude.{◌≡◌, ◌<◌, ◌++◌, ◌∷◌, [], Bool, List, ℕ, IfOk, OnOk, OnErr, length, take, true};
-ghost use Rattle.std.specs.Io.KnownBytes.{Appends};
-ghost use Rattle.layout_io.specs.Causes.{HasCause, RanOut};
+ghost use Rattle.std.specs.Prelude.{◌≡◌, ◌<◌, ◌++◌, ◌∷◌, [], Bool, List, ℕ, IfOk, OnOk, OnErr, IfErr, length, take, true, false};
+ghost use Rattle.layout_io.specs.Causes.{HasCause};
 ghost use Rattle.layout_io.specs.Told.{Disk, Told};
-ghost use Rattle.layout_server.specs.Words.{Asked};
-ghost use Rattle.layout_server.specs.Outside.{SameFiles, ReadRest, ReadTo, IsFound, IsWithin, WroteFile, WroteSome, Begins};
+ghost use Rattle.layout_server.specs.Outside.{SameFiles, ReadRest, ReadTo, IsFound, OnlyRead, ReadStop, WroteFile, OnlyWrites, WriteStop};
+ghost use Rattle.layout_server.specs.Puts.{IsPut, PutStop};
 
+use crate::stop::Stop;
 use layout_io::{Bytes, Files, IoFault, Row, Sink};
 use std::alloc::Global;
-
-/// What a file was found to hold.
-#[derive(Debug, Drop)]
-pub enum Found {
-    /// These bytes, to its end.
-    Whole(Bytes),
-    /// More bytes than are read.
-    Long,
-}
 
 // Reads on, and tells whether the file has ended.
 fn read_some<F: Files>(files: &mut F, file: u32, bytes: &mut Bytes) -> Result<bool, IoFault>
     requires { F.reads files.old file }
-    ensures more { IfOk result (λ ended. (piece : List ℕ) × (bytes.new ≡ bytes.old ++ piece) × Told (F.disk files.old) (F.disk files.new) (ReadRest file piece)) }
-    ensures end { IfOk result (λ ended. ended ≡ true → Told (F.disk files.old) (F.disk files.new) (λ d e. e.left file ≡ [])) }
-    ensures last { IfOk result (λ ended. ended ≡ true → bytes.new ≡ bytes.old) }
-    ensures kept { Told (F.disk files.old) (F.disk files.new) SameFiles }
+    ensures more { IfOk result (λ ended. (piece : List ℕ) × (bytes.new ≡ bytes.old ++ piece) × Told (F.told files.old).disk (F.told files.new).disk (ReadRest file piece)) }
+    ensures end { IfOk result (λ ended. ended ≡ true → Told (F.told files.old).disk (F.told files.new).disk (λ d e. e.left file ≡ [])) }
+    ensures grows { IfOk result (λ ended. ended ≡ false → length bytes.old < length bytes.new) }
+    ensures kept { Told (F.told files.old).disk (F.told files.new).disk SameFiles }
     ensures reads { F.reads files.new file }
-    ensures asked { F.asked files.new ≡ F.asked files.old }
-    ensures cause { HasCause (F.read_faults files.old) (F.read_faults files.new) result }
-    ensures other_count { F.write_faults files.new ≡ F.write_faults files.old }
+    ensures asked { (F.told files.new).asked ≡ (F.told files.old).asked }
+    ensures cause { HasCause (F.told files.old).read_faults (F.told files.new).read_faults result }
+    ensures other_count { (F.told files.new).write_faults ≡ (F.told files.old).write_faults }
 {
     let mut room = [0u8; 4096];
     let count = files.read(file, &mut room)?;
@@ -36,83 +27,90 @@ fn read_some<F: Files>(files: &mut F, file: u32, bytes: &mut Bytes) -> Result<bo
     Ok(count == 0)
 }
 
-// Reads what is left, or finds that it is more than so many bytes.
+// Reads what is left, or more than so many bytes of it.
 fn read_rest<F: Files>(
     alloc: Global,
     files: &mut F,
     file: u32,
     most: usize,
-) -> Result<Found, IoFault>
+) -> Result<Bytes, IoFault>
     requires { F.reads files.old file }
-    ensures found { IfOk result (λ found. Told (F.disk files.old) (F.disk files.new) (ReadTo file most found)) }
-    ensures few { IfOk result (IsWithin most) }
-    ensures kept { Told (F.disk files.old) (F.disk files.new) SameFiles }
-    ensures asked { F.asked files.new ≡ F.asked files.old }
-    ensures cause { HasCause (F.read_faults files.old) (F.read_faults files.new) result }
-    ensures other_count { F.write_faults files.new ≡ F.write_faults files.old }
+    ensures found { IfOk result (λ bytes. Told (F.told files.old).disk (F.told files.new).disk (ReadTo file most bytes)) }
+    ensures kept { Told (F.told files.old).disk (F.told files.new).disk SameFiles }
+    ensures asked { (F.told files.new).asked ≡ (F.told files.old).asked }
+    ensures cause { HasCause (F.told files.old).read_faults (F.told files.new).read_faults result }
+    ensures other_count { (F.told files.new).write_faults ≡ (F.told files.old).write_faults }
 {
     let mut bytes = Row::new(alloc);
-    for _turn in 0..u64::MAX {
-        if bytes.len() > most {
-            return Ok(Found::Long);
-        }
+    while bytes.len() <= most {
         if read_some(files, file, &mut bytes)? {
-            return Ok(Found::Whole(bytes));
+            return Ok(bytes);
         }
     }
-    Err(IoFault::Memory)
+    Ok(bytes)
 }
 
-/// All bytes of a file, unless there are more than so many.
-pub fn read_all<F: Files>(
+/// All bytes of a file, or, where they are more than so many, a front of them that is too long.
+pub fn read_file<F: Files>(
     alloc: Global,
     files: &mut F,
     name: &str,
     most: usize,
-) -> Result<Found, IoFault>
-    ensures found { IfOk result (λ found. Told (F.disk files.old) (F.disk files.new) (IsFound name.now most found)) }
-    ensures few { IfOk result (IsWithin most) }
-    ensures kept { Told (F.disk files.old) (F.disk files.new) SameFiles }
-    ensures asked { Asked (name.now ∷ []) (F.asked files.old) (F.asked files.new) }
-    ensures asked_ok { OnOk result (F.asked files.new ≡ F.asked files.old ++ name.now ∷ []) }
-    ensures cause { HasCause (F.read_faults files.old) (F.read_faults files.new) result }
-    ensures other_count { F.write_faults files.new ≡ F.write_faults files.old }
+) -> Result<Bytes, Stop>
+    ensures found { IfOk result (λ bytes. Told (F.told files.old).disk (F.told files.new).disk (IsFound name.now most bytes)) }
+    ensures only { OnOk result (OnlyRead (name.now ∷ []) (F.told files.old) (F.told files.new)) }
+    ensures err { IfErr result (ReadStop (name.now ∷ []) (F.told files.old) (F.told files.new)) }
 {
-    let file = files.open_read(name)?;
-    read_rest(alloc, files, file, most)
+    let file = match files.open_read(name) {
+        Ok(file) => file,
+        Err(IoFault::Failed) => return Err(Stop::Read),
+        Err(IoFault::Memory) => return Err(Stop::Memory),
+    };
+    match read_rest(alloc, files, file, most) {
+        Ok(bytes) => Ok(bytes),
+        Err(IoFault::Failed) => Err(Stop::Read),
+        Err(IoFault::Memory) => Err(Stop::Memory),
+    }
 }
 
 /// Writes all of a text to the sink. After an `Err` a front of it is written.
-pub fn write_out<O: Sink>(out: &mut O, text: &[u8]) -> Result<(), IoFault>
-    ensures ok { OnOk result (Appends (O.written out.old) (O.written out.new) text.now) }
-    ensures begins { Begins text.now (O.written out.old) (O.written out.new) }
-    ensures cause { HasCause (O.faults out.old) (O.faults out.new) result }
-    ensures memory { RanOut (O.ran_out out.old) (O.ran_out out.new) result }
+pub fn put_out<O: Sink>(out: &mut O, text: &[u8]) -> Result<(), Stop>
+    ensures ok { OnOk result (IsPut text.now (O.told out.old) (O.told out.new)) }
+    ensures err { IfErr result (PutStop text.now (O.told out.old) (O.told out.new)) }
 {
     let mut rest = text;
     while !rest.is_empty() {
-        let count = out.write(rest)?;
-        let (_, after) = rest.split_at(count);
-        rest = after;
+        match out.write(rest) {
+            Ok(count) => {
+                let (_, after) = rest.split_at(count);
+                rest = after;
+            }
+            Err(IoFault::Failed) => return Err(Stop::Write),
+            Err(IoFault::Memory) => return Err(Stop::Memory),
+        }
     }
     Ok(())
 }
 
 /// Writes all of a text to the end of a created file. After an `Err` a front of it is written.
-pub fn write_file<F: Files>(files: &mut F, file: u32, text: &[u8]) -> Result<(), IoFault>
+pub fn put_file<F: Files>(files: &mut F, file: u32, text: &[u8]) -> Result<(), Stop>
     requires { F.writes files.old file }
-    ensures ok { OnOk result (Told (F.disk files.old) (F.disk files.new) (WroteFile file text.now)) }
-    ensures begins { WroteSome file text.now (F.disk files.old) (F.disk files.new) }
+    ensures ok { OnOk result (Told (F.told files.old).disk (F.told files.new).disk (WroteFile file text.now)) }
+    ensures ok_count { OnOk result ((F.told files.new).write_faults ≡ (F.told files.old).write_faults) }
     ensures writes { OnOk result (F.writes files.new file) }
-    ensures asked { F.asked files.new ≡ F.asked files.old }
-    ensures cause { HasCause (F.write_faults files.old) (F.write_faults files.new) result }
-    ensures other_count { F.read_faults files.new ≡ F.read_faults files.old }
+    ensures only { OnlyWrites (F.told files.old) (F.told files.new) }
+    ensures err { IfErr result (WriteStop file text.now (F.told files.old) (F.told files.new)) }
 {
     let mut rest = text;
     while !rest.is_empty() {
-        let count = files.write(file, rest)?;
-        let (_, after) = rest.split_at(count);
-        rest = after;
+        match files.write(file, rest) {
+            Ok(count) => {
+                let (_, after) = rest.split_at(count);
+                rest = after;
+            }
+            Err(IoFault::Failed) => return Err(Stop::Write),
+            Err(IoFault::Memory) => return Err(Stop::Memory),
+        }
     }
     Ok(())
 }

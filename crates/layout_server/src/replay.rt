@@ -1,17 +1,35 @@
 //! A script is replayed for a design.
-ghost use Rattle.std.specs.Prelude.{◌≡◌, ◌++◌, ◌∷◌, [], OnOk, IfErr};
-ghost use Rattle.layout_server.specs.Words.{Asked, named};
-ghost use Rattle.layout_server.specs.Causes.{ReadCause, WriteCause};
-ghost use Rattle.layout_server.specs.Headline.{Replays, StopCause, Leaves};
+ghost use Rattle.std.specs.Prelude.{IfOk, OnOk, IfErr};
+ghost use Rattle.layout_server.specs.Words.{named};
+ghost use Rattle.layout_server.specs.Replays.{IsRunOf};
+ghost use Rattle.layout_server.specs.Loads.{IsLoaded};
+ghost use Rattle.layout_server.specs.Headline.{Replays, ReplayStop};
 
-use crate::load::load;
+use crate::load::{Loaded, load};
+use crate::master::answer_all;
 use crate::stop::Stop;
-use crate::store::store;
+use crate::store::{make_file, put_texts};
+use crate::texts::{Texts, output_text};
 use layout_io::{Files, Sink};
-use std::alloc::Global;
+use ses_writer::SesPieces;
+use std::alloc::{AllocError, Global};
+use std::marker::Brand;
+use std::sync::ledger::Blank;
+
+// Answers the steps of a script, and makes the texts of what comes of it.
+#[tactic(auto, using(crate::proofs::Journals::is_run))]
+fn texts_of(alloc: Global, loaded: &Loaded) -> Result<Texts, AllocError>
+    requires { IsLoaded loaded.now }
+    ensures { IfOk result (λ texts. IsRunOf loaded.now.design loaded.now.steps texts.output texts.session) }
+{
+    let design = &loaded.design;
+    let run = answer_all::<Brand>(alloc, design, &loaded.steps, Blank::new(1))?;
+    let output = output_text(alloc, run.answers.as_slice(), run.master.journal.as_slice())?;
+    let session = SesPieces::new(alloc, design, &run.master.board)?;
+    Ok(Texts { output, session })
+}
 
 /// Replays a script for a design, and writes the session file.
-#[tactic(auto, using(crate::proofs::Runs::load_cause, crate::proofs::Runs::load_leaves))]
 pub fn replay<F: Files, O: Sink>(
     alloc: Global,
     files: &mut F,
@@ -20,13 +38,13 @@ pub fn replay<F: Files, O: Sink>(
     script: &str,
     session: &str,
 ) -> Result<(), Stop>
-    ensures ok { OnOk result (Replays (named design.now script.now session.now) (F.disk files.old) (F.disk files.new) (O.written out.old) (O.written out.new)) }
-    ensures left { IfErr result (Leaves (named design.now script.now session.now) (F.disk files.old) (F.disk files.new) (O.written out.old) (O.written out.new)) }
-    ensures cause { IfErr result (StopCause (named design.now script.now session.now) (F.disk files.old)) }
-    ensures asked { Asked (design.now ∷ script.now ∷ session.now ∷ []) (F.asked files.old) (F.asked files.new) }
-    ensures read { ReadCause (F.read_faults files.old) (F.read_faults files.new) result }
-    ensures write { WriteCause (F.write_faults files.old) (F.write_faults files.new) (O.faults out.old) (O.faults out.new) result }
+    ensures ok { OnOk result (Replays (named design.now script.now session.now) (F.told files.old) (F.told files.new) (O.told out.old) (O.told out.new)) }
+    ensures err { IfErr result (ReplayStop (named design.now script.now session.now) (F.told files.old) (F.told files.new) (O.told out.old) (O.told out.new)) }
 {
     let loaded = load(alloc, files, design, script)?;
-    store(alloc, files, out, session, &loaded)
+    let file = make_file(files, session)?;
+    let Ok(mut texts) = texts_of(alloc, &loaded) else {
+        return Err(Stop::Memory);
+    };
+    put_texts(files, out, file, &mut texts)
 }

@@ -1,12 +1,12 @@
 //! The program's commands.
-ghost use Rattle.std.specs.Prelude.{◌≡◌, ◌≢◌, ◌≤◌, ◌⊎◌, ◌↔◌, ◌∷◌, [], List, IsTrue, OnOk, IfErr, codes, length};
-ghost use Rattle.layout_io.specs.Causes.{Rose};
+ghost use Rattle.std.specs.Prelude.{◌≡◌, ◌≢◌, ◌≤◌, ◌⊎◌, ◌↔◌, List, IsTrue, OnOk, IfErr, codes, length};
 ghost use Rattle.board_rules.specs.declared.design.Design.{Design};
 ghost use Rattle.session_wire.specs.declared.steps.ScriptStep.{ScriptStep};
-ghost use Rattle.layout_server.specs.Words.{texts, text_at, names_in, names_behind, IsReplay, IsCheck, Asked, three};
-ghost use Rattle.layout_server.specs.Causes.{ReadCause, WriteCause};
-ghost use Rattle.layout_server.specs.Checks.{Checks, CheckLeaves, CheckCause, HasToldClean};
-ghost use Rattle.layout_server.specs.Headline.{Replays, StopCause, Leaves, Stops, Tells, IsStatus, HasToldInputs, counts};
+ghost use Rattle.layout_server.specs.Words.{texts, text_at, names_in, names_behind, IsReplay, IsCheck, Asked};
+ghost use Rattle.layout_server.specs.Inputs.{HasToldClean, HasToldInputs};
+ghost use Rattle.layout_server.specs.Checks.{Checks, CheckStop};
+ghost use Rattle.layout_server.specs.Stops.{Stops, Tells, IsStatus, HasCounts, NoFault};
+ghost use Rattle.layout_server.specs.Headline.{Replays, ReplayStop};
 
 use crate::check::check;
 use crate::replay::replay;
@@ -37,12 +37,8 @@ fn replay_words<F: Files, O: Sink>(
     out: &mut O,
 ) -> Result<(), Stop>
     requires { length words.now ≡ 4 }
-    ensures ok { OnOk result (Replays (names_in (texts words.now)) (F.disk files.old) (F.disk files.new) (O.written out.old) (O.written out.new)) }
-    ensures left { IfErr result (Leaves (names_in (texts words.now)) (F.disk files.old) (F.disk files.new) (O.written out.old) (O.written out.new)) }
-    ensures cause { IfErr result (StopCause (names_in (texts words.now)) (F.disk files.old)) }
-    ensures asked { Asked (three (names_in (texts words.now))) (F.asked files.old) (F.asked files.new) }
-    ensures read { ReadCause (F.read_faults files.old) (F.read_faults files.new) result }
-    ensures write { WriteCause (F.write_faults files.old) (F.write_faults files.new) (O.faults out.old) (O.faults out.new) result }
+    ensures ok { OnOk result (Replays (names_in (texts words.now)) (F.told files.old) (F.told files.new) (O.told out.old) (O.told out.new)) }
+    ensures err { IfErr result (ReplayStop (names_in (texts words.now)) (F.told files.old) (F.told files.new) (O.told out.old) (O.told out.new)) }
 {
     let design = words[1].as_str();
     let script = words[2].as_str();
@@ -58,31 +54,18 @@ fn check_words<F: Files, O: Sink>(
     out: &mut O,
 ) -> Result<(), Stop>
     requires { length words.now ≡ 2 }
-    ensures ok { OnOk result (Checks (text_at (texts words.now) 1) (F.disk files.old) (F.disk files.new) (O.written out.old) (O.written out.new)) }
-    ensures left { IfErr result (CheckLeaves (text_at (texts words.now) 1) (F.disk files.old) (F.disk files.new) (O.written out.old) (O.written out.new)) }
-    ensures cause { IfErr result (CheckCause (text_at (texts words.now) 1) (F.disk files.old)) }
-    ensures asked { Asked (text_at (texts words.now) 1 ∷ []) (F.asked files.old) (F.asked files.new) }
-    ensures read { ReadCause (F.read_faults files.old) (F.read_faults files.new) result }
-    ensures write { WriteCause (F.write_faults files.old) (F.write_faults files.new) (O.faults out.old) (O.faults out.new) result }
-    ensures made { F.write_faults files.new ≡ F.write_faults files.old }
+    ensures ok { OnOk result (Checks (text_at (texts words.now) 1) (F.told files.old) (F.told files.new) (O.told out.old) (O.told out.new)) }
+    ensures err { IfErr result (CheckStop (text_at (texts words.now) 1) (F.told files.old) (F.told files.new) (O.told out.old) (O.told out.new)) }
 {
     check(alloc, files, out, words[1].as_str())
 }
 
 // As `run`, where the words are those of `replay`.
+#[tactic(auto, using(crate::proofs::Ended::never_0))]
 fn run_replay<F: Files, O: Sink>(alloc: Global, words: &[String], files: &mut F, out: &mut O) -> u8
     requires { length words.now ≡ 4 }
-    ensures statuses { IsStatus result }
-    ensures not_usage { result ≢ 1 }
-    ensures replayed { result ≡ 0 → Replays (names_in (texts words.now)) (F.disk files.old) (F.disk files.new) (O.written out.old) (O.written out.new) }
-    ensures stopped { 2 ≤ result → Stops (StopCause (names_in (texts words.now)) (F.disk files.old)) (Leaves (names_in (texts words.now)) (F.disk files.old) (F.disk files.new) (O.written out.old)) (O.written out.new) (counts (F.write_faults files.old) (F.write_faults files.new) (O.faults out.old) (O.faults out.new)) (O.ran_out out.new) result }
-    ensures read { result ≡ 3 → Rose (F.read_faults files.old) (F.read_faults files.new) }
-    ensures no_read_fault { result ≢ 3 → F.read_faults files.new ≡ F.read_faults files.old }
-    ensures write { result ≡ 4 → Rose (F.write_faults files.old) (F.write_faults files.new) ⊎ Rose (O.faults out.old) (O.faults out.new) }
-    ensures no_write_fault { result ≢ 4 → F.write_faults files.new ≡ F.write_faults files.old }
-    ensures no_out_fault { result ≡ 0 → O.faults out.new ≡ O.faults out.old }
-    ensures asked { Asked (names_behind (texts words.now)) (F.asked files.old) (F.asked files.new) }
-    ensures complete { (d : Design) (steps : List ScriptStep) → HasToldInputs (names_in (texts words.now)) d steps (F.disk files.old) → (Rose (F.read_faults files.old) (F.read_faults files.new) → ⊥) → (Rose (F.write_faults files.old) (F.write_faults files.new) → ⊥) → (Rose (O.faults out.old) (O.faults out.new) → ⊥) → (result ≡ 0) ⊎ (result ≡ 7) }
+    ensures ok { result ≡ 0 → Replays (names_in (texts words.now)) (F.told files.old) (F.told files.new) (O.told out.old) (O.told out.new) }
+    ensures stopped { result ≢ 0 → Stops (ReplayStop (names_in (texts words.now)) (F.told files.old) (F.told files.new) (O.told out.old)) (O.told out.new) result }
 {
     match replay_words(alloc, words, files, out) {
         Ok(()) => 0,
@@ -91,20 +74,11 @@ fn run_replay<F: Files, O: Sink>(alloc: Global, words: &[String], files: &mut F,
 }
 
 // As `run`, where the words are those of `check`.
+#[tactic(auto, using(crate::proofs::Ended::never_0))]
 fn run_check<F: Files, O: Sink>(alloc: Global, words: &[String], files: &mut F, out: &mut O) -> u8
     requires { length words.now ≡ 2 }
-    ensures statuses { IsStatus result }
-    ensures not_usage { result ≢ 1 }
-    ensures checked { result ≡ 0 → Checks (text_at (texts words.now) 1) (F.disk files.old) (F.disk files.new) (O.written out.old) (O.written out.new) }
-    ensures stopped { 2 ≤ result → Stops (CheckCause (text_at (texts words.now) 1) (F.disk files.old)) (CheckLeaves (text_at (texts words.now) 1) (F.disk files.old) (F.disk files.new) (O.written out.old)) (O.written out.new) (counts (F.write_faults files.old) (F.write_faults files.new) (O.faults out.old) (O.faults out.new)) (O.ran_out out.new) result }
-    ensures read { result ≡ 3 → Rose (F.read_faults files.old) (F.read_faults files.new) }
-    ensures no_read_fault { result ≢ 3 → F.read_faults files.new ≡ F.read_faults files.old }
-    ensures write { result ≡ 4 → Rose (F.write_faults files.old) (F.write_faults files.new) ⊎ Rose (O.faults out.old) (O.faults out.new) }
-    ensures no_write_fault { result ≢ 4 → F.write_faults files.new ≡ F.write_faults files.old }
-    ensures no_out_fault { result ≡ 0 → O.faults out.new ≡ O.faults out.old }
-    ensures made { F.write_faults files.new ≡ F.write_faults files.old }
-    ensures asked { Asked (names_behind (texts words.now)) (F.asked files.old) (F.asked files.new) }
-    ensures complete { (d : Design) → HasToldClean (text_at (texts words.now) 1) d (F.disk files.old) → (Rose (F.read_faults files.old) (F.read_faults files.new) → ⊥) → (Rose (F.write_faults files.old) (F.write_faults files.new) → ⊥) → (Rose (O.faults out.old) (O.faults out.new) → ⊥) → (result ≡ 0) ⊎ (result ≡ 7) }
+    ensures ok { result ≡ 0 → Checks (text_at (texts words.now) 1) (F.told files.old) (F.told files.new) (O.told out.old) (O.told out.new) }
+    ensures stopped { result ≢ 0 → Stops (CheckStop (text_at (texts words.now) 1) (F.told files.old) (F.told files.new) (O.told out.old)) (O.told out.new) result }
 {
     match check_words(alloc, words, files, out) {
         Ok(()) => 0,
@@ -118,28 +92,23 @@ fn run_check<F: Files, O: Sink>(alloc: Global, words: &[String], files: &mut F, 
 #[tactic(auto, using(crate::proofs::Words::one_form))]
 pub fn run<F: Files, O: Sink>(alloc: Global, words: &[String], files: &mut F, out: &mut O) -> u8
     // Status 1 exactly for the words, with its line.
-    ensures usage { result ≡ 1 → (IsReplay (texts words.now) → ⊥) × (IsCheck (texts words.now) → ⊥) × Tells (codes "usage\n") (O.written out.old) (O.written out.new) (O.faults out.old) (O.faults out.new) (O.ran_out out.new) }
+    ensures usage { result ≡ 1 → (IsReplay (texts words.now) → ⊥) × (IsCheck (texts words.now) → ⊥) × Tells (codes "usage\n") (O.told out.old) (O.told out.new) }
     ensures form { result ≢ 1 → IsReplay (texts words.now) ⊎ IsCheck (texts words.now) }
     ensures statuses { IsStatus result }
     // `replay`: at 0 the output and the session file are those of the script's steps, from the bytes of the design on.
-    ensures replayed { IsReplay (texts words.now) → result ≡ 0 → Replays (names_in (texts words.now)) (F.disk files.old) (F.disk files.new) (O.written out.old) (O.written out.new) }
+    ensures replayed { IsReplay (texts words.now) → result ≡ 0 → Replays (names_in (texts words.now)) (F.told files.old) (F.told files.new) (O.told out.old) (O.told out.new) }
     // From 2 on: why it stopped, what was written, and the status's line.
-    ensures stopped { IsReplay (texts words.now) → 2 ≤ result → Stops (StopCause (names_in (texts words.now)) (F.disk files.old)) (Leaves (names_in (texts words.now)) (F.disk files.old) (F.disk files.new) (O.written out.old)) (O.written out.new) (counts (F.write_faults files.old) (F.write_faults files.new) (O.faults out.old) (O.faults out.new)) (O.ran_out out.new) result }
+    ensures stopped { IsReplay (texts words.now) → 2 ≤ result → Stops (ReplayStop (names_in (texts words.now)) (F.told files.old) (F.told files.new) (O.told out.old)) (O.told out.new) result }
     // `check`: at 0 the output is the line of the design's loaded items, which are clean, and no file changed.
-    ensures checked { IsCheck (texts words.now) → result ≡ 0 → Checks (text_at (texts words.now) 1) (F.disk files.old) (F.disk files.new) (O.written out.old) (O.written out.new) }
-    ensures check_stopped { IsCheck (texts words.now) → 2 ≤ result → Stops (CheckCause (text_at (texts words.now) 1) (F.disk files.old)) (CheckLeaves (text_at (texts words.now) 1) (F.disk files.old) (F.disk files.new) (O.written out.old)) (O.written out.new) (counts (F.write_faults files.old) (F.write_faults files.new) (O.faults out.old) (O.faults out.new)) (O.ran_out out.new) result }
-    ensures check_made { IsCheck (texts words.now) → F.write_faults files.new ≡ F.write_faults files.old }
+    ensures checked { IsCheck (texts words.now) → result ≡ 0 → Checks (text_at (texts words.now) 1) (F.told files.old) (F.told files.new) (O.told out.old) (O.told out.new) }
+    ensures check_stopped { IsCheck (texts words.now) → 2 ≤ result → Stops (CheckStop (text_at (texts words.now) 1) (F.told files.old) (F.told files.new) (O.told out.old)) (O.told out.new) result }
     // A fault only where a count rose, and none is passed over.
-    ensures read { result ≡ 3 → Rose (F.read_faults files.old) (F.read_faults files.new) }
-    ensures no_read_fault { result ≢ 3 → F.read_faults files.new ≡ F.read_faults files.old }
-    ensures write { result ≡ 4 → Rose (F.write_faults files.old) (F.write_faults files.new) ⊎ Rose (O.faults out.old) (O.faults out.new) }
-    ensures no_write_fault { result ≢ 4 → F.write_faults files.new ≡ F.write_faults files.old }
-    ensures no_out_fault { result ≡ 0 → O.faults out.new ≡ O.faults out.old }
+    ensures counts { HasCounts result (F.told files.old) (F.told files.new) (O.told out.old) (O.told out.new) }
     // No other file is touched: the names behind the command are asked for, in their order.
-    ensures asked { Asked (names_behind (texts words.now)) (F.asked files.old) (F.asked files.new) }
+    ensures asked { Asked (names_behind (texts words.now)) (F.told files.old).asked (F.told files.new).asked }
     // Inputs with a reading, and no count that rose, give 0, or want of memory.
-    ensures complete { (d : Design) (steps : List ScriptStep) → IsReplay (texts words.now) → HasToldInputs (names_in (texts words.now)) d steps (F.disk files.old) → (Rose (F.read_faults files.old) (F.read_faults files.new) → ⊥) → (Rose (F.write_faults files.old) (F.write_faults files.new) → ⊥) → (Rose (O.faults out.old) (O.faults out.new) → ⊥) → (result ≡ 0) ⊎ (result ≡ 7) }
-    ensures check_complete { (d : Design) → IsCheck (texts words.now) → HasToldClean (text_at (texts words.now) 1) d (F.disk files.old) → (Rose (F.read_faults files.old) (F.read_faults files.new) → ⊥) → (Rose (F.write_faults files.old) (F.write_faults files.new) → ⊥) → (Rose (O.faults out.old) (O.faults out.new) → ⊥) → (result ≡ 0) ⊎ (result ≡ 7) }
+    ensures complete { (d : Design) (steps : List ScriptStep) → IsReplay (texts words.now) → HasToldInputs (names_in (texts words.now)) d steps (F.told files.old).disk → NoFault (F.told files.old) (F.told files.new) (O.told out.old) (O.told out.new) → (result ≡ 0) ⊎ (result ≡ 7) }
+    ensures check_complete { (d : Design) → IsCheck (texts words.now) → HasToldClean (text_at (texts words.now) 1) d (F.told files.old).disk → NoFault (F.told files.old) (F.told files.new) (O.told out.old) (O.told out.new) → (result ≡ 0) ⊎ (result ≡ 7) }
 {
     if is_replay(words) {
         return run_replay(alloc, words, files, out);

@@ -1,18 +1,17 @@
 //! A script as its steps.
 ghost use Rattle.std.specs.Prelude.{◌≡◌, ◌≢◌, ◌+◌, ◌<◌, ◌≤◌, ◌++◌, ◌∷◌, [], List, ℕ, IfOk, OnOk, IfErr, IfSome, IfNone, MatchOption, IsTrue, length, ◌==◌};
 ghost use Rattle.std.specs.List.{position};
+ghost use Rattle.row_lists.specs.Limits.{text_limit_bytes};
 ghost use Rattle.session_wire.specs.Lines.{step_line};
 ghost use Rattle.session_wire.specs.Steps.{IsStep, IsLine};
 ghost use Rattle.session_wire.specs.declared.steps.ScriptStep.{ScriptStep};
 ghost use Rattle.layout_server.specs.Scripts.{IsScript, IsBad};
 ghost use Rattle.layout_server.specs.Lines.{WhyBad, HasNoStep};
+ghost use Rattle.layout_server.specs.declared.script.ScriptFault.TheVariants.{Memory};
 
-use layout_io::Row;
-use session_wire::{ScriptStep, ScriptSteps, read_step};
+use row_lists::{Row, TEXT_LIMIT_BYTES};
+use session_wire::{LineFault, ScriptStep, ScriptSteps, decode_script_line};
 use std::alloc::{AllocError, Global};
-
-/// How many bytes a script may have.
-pub const SCRIPT_LIMIT: usize = 67_108_864;
 
 /// How many lines a script may have.
 const LINE_LIMIT: usize = 500;
@@ -56,22 +55,24 @@ fn split_line(text: &[u8]) -> Option<(&[u8], &[u8])>
 fn first_step<'a>(
     alloc: Global,
     text: &'a [u8],
-) -> Result<Option<(ScriptStep, &'a [u8])>, AllocError>
+) -> Result<Option<(ScriptStep, &'a [u8])>, ScriptFault>
     ensures some { IfOk result (λ o. IfSome o (λ x. IsStep x.0 × (text.now ≡ step_line x.0 ++ x.1.now))) }
     ensures none { IfOk result (λ o. IfNone o (HasNoStep text.now)) }
+    ensures err { IfErr result (λ e. e ≡ Memory) }
 {
     match split_line(text) {
         None => Ok(None),
-        Some((line, after)) => match read_step(alloc, line)? {
-            None => Ok(None),
-            Some(step) => Ok(Some((step, after))),
+        Some((line, after)) => match decode_script_line(alloc, line) {
+            Ok(step) => Ok(Some((step, after))),
+            Err(LineFault::Bad { at: _ }) => Ok(None),
+            Err(LineFault::Memory) => Err(ScriptFault::Memory),
         },
     }
 }
 
 // The steps of a script that isn't too long.
 fn read_lines(alloc: Global, text: &[u8]) -> Result<ScriptSteps, ScriptFault>
-    requires { length text.now ≤ 67108864 }
+    requires { length text.now ≤ text_limit_bytes }
     ensures ok { IfOk result (IsScript text.now) }
     ensures err { IfErr result (WhyBad text.now) }
 {
@@ -97,7 +98,7 @@ pub fn read_script(alloc: Global, text: &[u8]) -> Result<ScriptSteps, ScriptFaul
     ensures ok { IfOk result (IsScript text.now) }
     ensures err { IfErr result (WhyBad text.now) }
 {
-    if text.len() > SCRIPT_LIMIT {
+    if text.len() > TEXT_LIMIT_BYTES {
         return Err(ScriptFault::Line(0));
     }
     read_lines(alloc, text)

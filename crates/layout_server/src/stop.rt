@@ -1,4 +1,5 @@
 //! Why a command stops.
+use board_items::ItemId;
 use dsn_reader::DesignFault;
 
 /// Why a command stops before its end: the first fault that it met.
@@ -13,7 +14,7 @@ pub enum Stop {
     /// This line of the script is the first without a reading, from 1; 0 where the script is too long.
     Script(u64),
     /// These two loaded items are the least that are too near to each other, the lower number first.
-    Unclean(u32, u32),
+    Unclean { a: ItemId, b: ItemId },
     /// Memory ran out.
     Memory,
 }

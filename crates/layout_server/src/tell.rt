@@ -1,32 +1,30 @@
 //! The line of a status.
-ghost use Rattle.std.specs.Prelude.{◌≡◌, ◌≤◌, ◌++◌, codes, decimal};
-ghost use Rattle.layout_server.specs.Causes.{status_of, stop_line};
+ghost use Rattle.std.specs.Prelude.{◌≡◌, ◌++◌, codes, decimal};
 ghost use Rattle.layout_server.specs.Faults.{kind_word};
-ghost use Rattle.layout_server.specs.Headline.{Tells};
+ghost use Rattle.layout_server.specs.Stops.{Tells, status_of, stop_line};
 ghost use Rattle.layout_server.specs.declared.stop.Stop.TheVariants.{Design, Unclean};
 
-use crate::outside::write_out;
+use crate::outside::put_out;
 use crate::stop::Stop;
+use board_items::ItemId;
 use dsn_reader::{DesignFault, DesignKind};
 use itoa::Buffer;
 use layout_io::Sink;
 
 /// Writes a line. A fault of that writing changes nothing.
-#[tactic(auto, using(crate::proofs::Tells::tells_line, crate::proofs::Tells::later_of))]
+#[tactic(auto, using(crate::proofs::Tells::tells_line))]
 pub fn tell<O: Sink>(out: &mut O, line: &[u8])
-    ensures line { Tells line.now (O.written out.old) (O.written out.new) (O.faults out.old) (O.faults out.new) (O.ran_out out.new) }
-    ensures later { O.faults out.old ≤ O.faults out.new }
+    ensures { Tells line.now (O.told out.old) (O.told out.new) }
 {
-    let _ = write_out(out, line);
+    let _ = put_out(out, line);
 }
 
 // Writes a number and the line's end.
 fn tell_digits<O: Sink>(out: &mut O, number: u64)
-    ensures line { Tells (decimal number ++ codes "\n") (O.written out.old) (O.written out.new) (O.faults out.old) (O.faults out.new) (O.ran_out out.new) }
-    ensures later { O.faults out.old ≤ O.faults out.new }
+    ensures { Tells (decimal number ++ codes "\n") (O.told out.old) (O.told out.new) }
 {
     let mut buffer = Buffer::new();
-    match write_out(out, buffer.format(number).as_bytes()) {
+    match put_out(out, buffer.format(number).as_bytes()) {
         Ok(()) => tell(out, b"\n"),
         Err(_) => {}
     }
@@ -34,10 +32,9 @@ fn tell_digits<O: Sink>(out: &mut O, number: u64)
 
 // Writes a line of a word and a number.
 fn tell_number<O: Sink>(out: &mut O, word: &[u8], number: u64)
-    ensures line { Tells (word.now ++ (decimal number ++ codes "\n")) (O.written out.old) (O.written out.new) (O.faults out.old) (O.faults out.new) (O.ran_out out.new) }
-    ensures later { O.faults out.old ≤ O.faults out.new }
+    ensures { Tells (word.now ++ (decimal number ++ codes "\n")) (O.told out.old) (O.told out.new) }
 {
-    match write_out(out, word) {
+    match put_out(out, word) {
         Ok(()) => tell_digits(out, number),
         Err(_) => {}
     }
@@ -75,10 +72,9 @@ fn kind_text(kind: DesignKind) -> &'static [u8]
 
 // Writes the kind and the byte of a fault, and the line's end.
 fn tell_kind<O: Sink>(out: &mut O, fault: DesignFault)
-    ensures line { Tells (kind_word fault.kind ++ (codes " " ++ (decimal fault.at ++ codes "\n"))) (O.written out.old) (O.written out.new) (O.faults out.old) (O.faults out.new) (O.ran_out out.new) }
-    ensures later { O.faults out.old ≤ O.faults out.new }
+    ensures { Tells (kind_word fault.kind ++ (codes " " ++ (decimal fault.at ++ codes "\n"))) (O.told out.old) (O.told out.new) }
 {
-    match write_out(out, kind_text(fault.kind)) {
+    match put_out(out, kind_text(fault.kind)) {
         Ok(()) => tell_number(out, b" ", fault.at as u64),
         Err(_) => {}
     }
@@ -86,10 +82,9 @@ fn tell_kind<O: Sink>(out: &mut O, fault: DesignFault)
 
 // Writes the line of a design's fault.
 fn tell_fault<O: Sink>(out: &mut O, fault: DesignFault)
-    ensures line { Tells (stop_line (Design fault)) (O.written out.old) (O.written out.new) (O.faults out.old) (O.faults out.new) (O.ran_out out.new) }
-    ensures later { O.faults out.old ≤ O.faults out.new }
+    ensures { Tells (stop_line (Design fault)) (O.told out.old) (O.told out.new) }
 {
-    match write_out(out, b"design ") {
+    match put_out(out, b"design ") {
         Ok(()) => tell_kind(out, fault),
         Err(_) => {}
     }
@@ -97,23 +92,21 @@ fn tell_fault<O: Sink>(out: &mut O, fault: DesignFault)
 
 // Writes two numbers and the line's end.
 fn tell_pair<O: Sink>(out: &mut O, a: u32, b: u32)
-    ensures line { Tells (decimal a ++ (codes " " ++ (decimal b ++ codes "\n"))) (O.written out.old) (O.written out.new) (O.faults out.old) (O.faults out.new) (O.ran_out out.new) }
-    ensures later { O.faults out.old ≤ O.faults out.new }
+    ensures { Tells (decimal a ++ (codes " " ++ (decimal b ++ codes "\n"))) (O.told out.old) (O.told out.new) }
 {
     let mut buffer = Buffer::new();
-    match write_out(out, buffer.format(a).as_bytes()) {
+    match put_out(out, buffer.format(a).as_bytes()) {
         Ok(()) => tell_number(out, b" ", b as u64),
         Err(_) => {}
     }
 }
 
 // Writes the line of two items that are too near.
-fn tell_unclean<O: Sink>(out: &mut O, a: u32, b: u32)
-    ensures line { Tells (stop_line (Unclean a b)) (O.written out.old) (O.written out.new) (O.faults out.old) (O.faults out.new) (O.ran_out out.new) }
-    ensures later { O.faults out.old ≤ O.faults out.new }
+fn tell_unclean<O: Sink>(out: &mut O, a: ItemId, b: ItemId)
+    ensures { Tells (stop_line (Unclean a b)) (O.told out.old) (O.told out.new) }
 {
-    match write_out(out, b"unclean ") {
-        Ok(()) => tell_pair(out, a, b),
+    match put_out(out, b"unclean ") {
+        Ok(()) => tell_pair(out, a.0, b.0),
         Err(_) => {}
     }
 }
@@ -121,8 +114,7 @@ fn tell_unclean<O: Sink>(out: &mut O, a: u32, b: u32)
 /// Writes the line of a stop, and gives its status.
 pub fn tell_stop<O: Sink>(stop: Stop, out: &mut O) -> u8
     ensures status { result ≡ status_of stop }
-    ensures line { Tells (stop_line stop) (O.written out.old) (O.written out.new) (O.faults out.old) (O.faults out.new) (O.ran_out out.new) }
-    ensures later { O.faults out.old ≤ O.faults out.new }
+    ensures line { Tells (stop_line stop) (O.told out.old) (O.told out.new) }
 {
     match stop {
         Stop::Design(fault) => {
@@ -141,7 +133,7 @@ pub fn tell_stop<O: Sink>(stop: Stop, out: &mut O) -> u8
             tell_number(out, b"script ", line);
             5
         }
-        Stop::Unclean(a, b) => {
+        Stop::Unclean { a, b } => {
             tell_unclean(out, a, b);
             6
         }

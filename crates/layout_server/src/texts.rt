@@ -1,21 +1,16 @@
 //! The texts of a run.
-ghost use Rattle.std.specs.Prelude.{◌≡◌, ◌++◌, ◌∷◌, [], ◌≤◌, OnOk, IfOk, length};
-ghost use Rattle.std.specs.List.{flat_map, AllByRecursion};
-ghost use Rattle.session_wire.specs.Steps.{IsStep};
+ghost use Rattle.std.specs.Prelude.{◌≡◌, ◌++◌, OnOk, IfOk, length};
+ghost use Rattle.std.specs.List.{flat_map};
 ghost use Rattle.session_wire.specs.Lines.{entry_line};
-ghost use Rattle.layout_server.specs.Loads.{IsReadDesign};
-ghost use Rattle.layout_server.specs.Replays.{answer_line, count_line, output_of, IsRunOf};
+ghost use Rattle.layout_server.specs.Replays.{answer_line, count_line, output_of};
 
-use crate::master::{Answered, serve};
+use crate::master::Answered;
 use board_items::Entry;
-use board_rules::Design;
 use itoa::Buffer;
 use layout_io::Bytes;
 use ses_writer::SesPieces;
-use session_wire::{ScriptSteps, write_entry, write_reply};
+use session_wire::{write_entry, write_reply};
 use std::alloc::{AllocError, Global};
-use std::marker::Brand;
-use std::sync::ledger::Blank;
 
 /// What a run writes: the output, and the session text in pieces.
 #[derive(Debug, Drop)]
@@ -60,7 +55,12 @@ fn put_entries(out: &mut Bytes, journal: &[Entry]) -> Result<(), AllocError>
     Ok(())
 }
 
-fn output_text(alloc: Global, answers: &[Answered], journal: &[Entry]) -> Result<Bytes, AllocError>
+/// The replies, the count of entries, and the entries.
+pub fn output_text(
+    alloc: Global,
+    answers: &[Answered],
+    journal: &[Entry],
+) -> Result<Bytes, AllocError>
     ensures { IfOk result (λ text. text ≡ output_of answers.now journal.now) }
 {
     let mut out = Bytes::new(alloc);
@@ -68,18 +68,4 @@ fn output_text(alloc: Global, answers: &[Answered], journal: &[Entry]) -> Result
     put_count(&mut out, journal.len())?;
     put_entries(&mut out, journal)?;
     Ok(out)
-}
-
-/// Answers the steps of a script, and writes what comes of it.
-#[tactic(auto, using(crate::proofs::Journals::few_live))]
-pub fn texts_of(alloc: Global, design: &Design, script: &ScriptSteps) -> Result<Texts, AllocError>
-    requires design { IsReadDesign design.now }
-    requires formed { AllByRecursion IsStep script.now }
-    requires few { length script.now ≤ 500 }
-    ensures { IfOk result (λ texts. IsRunOf design.now script.now texts.output texts.session) }
-{
-    let run = serve::<Brand>(alloc, design, script, Blank::new(1))?;
-    let output = output_text(alloc, run.answers.as_slice(), run.master.journal.as_slice())?;
-    let session = SesPieces::new(alloc, design, &run.master.board)?;
-    Ok(Texts { output, session })
 }

@@ -5,14 +5,15 @@ mod count;
 #[cfg(test)]
 mod tests;
 
-use count::{TEXT_LIMIT, count_of};
+use count::count_of;
+use row_lists::TEXT_LIMIT_BYTES;
 use std::rt::HostRuntime;
 use std::{env, fs, io, process};
 
 // A file's line: how many lists and words it has, its text fault, or that it is too long.
 fn print_count(rt: &HostRuntime, name: &str) -> io::Result<()> {
     let bytes = fs::read(rt, name)?;
-    if bytes.len() > TEXT_LIMIT {
+    if bytes.len() > TEXT_LIMIT_BYTES {
         return println!(rt; "long");
     }
     match count_of(rt.alloc(), &bytes) {

@@ -1,36 +1,28 @@
-use Rattle.std.proofs.Common.{◌≡◌, ◌++◌, ◌∙◌, take, drop}
-use Rattle.layout_server.specs.Outside.{WroteFile, WroteFirst}
-use Rattle.layout_server.proofs.Tolds.{told_then}
-use Rattle.layout_server.proofs.Files.{Gave, gave_some}
-use Rattle.layout_server.proofs.Pieces.{gave_piece, gave_front, cut_piece}
+use Rattle.std.proofs.Common.{◌≡◌, ◌++◌, ◌∙◌, take}
+use Rattle.std.proofs.lemmas.Result.{err_from_is_err_and}
+use Rattle.layout_server.proofs.Files.{gave_more, part_stops, cut_piece}
 use Rattle.layout_server.proofs.store.put_pieces.Goals as goal
-
-pub returns-then-count-eq0-clause-begins : goal.returns-then-count-eq0-clause-begins
-returns-then-count-eq0-clause-begins g c = gave_some c.args.file c.args.session.now c.pieces.session (g.F.Files.disk c.args.files.now) (g.F.Files.disk c.pieces.files) c.pieces.invariant.told
 
 pub pieces-preserved : goal.pieces-preserved
 pieces-preserved g c =
-    let text = c.args.session.now in
     let left = c.pieces.session in
     let after = c.next-count.new.self in
     let piece = take c.next-count.result c.next-count.new.into in
     let parts : left ≡ piece ++ after = cut_piece c.next-count.result c.next-count.new.into left after c.next-count.ensures.piece c.next-count.ensures.rest in
     let put = c.in_ok-put_file.ensures in
     record {
-      told = told_then (g.F.Files.disk c.args.files.now) (g.F.Files.disk c.pieces.files) (g.F.Files.disk c.put_file.new.files) (Gave c.args.file text left) (WroteFile c.args.file piece) (Gave c.args.file text after) c.pieces.invariant.told put.ok (λ d e f. gave_piece c.args.file text left piece after d e f parts);
+      gave = gave_more c.args.file c.args.session.now left piece after (g.F.Files.told c.args.files.now).disk (g.F.Files.told c.pieces.files).disk (g.F.Files.told c.put_file.new.files).disk parts c.pieces.invariant.gave put.ok;
       writes = put.writes;
-      asked = put.asked ∙ c.pieces.invariant.asked;
-      read_faults = put.read ∙ c.pieces.invariant.read_faults;
-      write_faults = put.cause ∙ c.pieces.invariant.write_faults;
+      asked = put.only.asked ∙ c.pieces.invariant.asked;
+      read_faults = put.only.reads ∙ c.pieces.invariant.read_faults;
+      write_faults = put.ok_count ∙ c.pieces.invariant.write_faults;
     }
 
-pub returns-in_err-put_file-clause-begins : goal.returns-in_err-put_file-clause-begins
-returns-in_err-put_file-clause-begins g c =
-    let text = c.args.session.now in
+pub returns-in_err-put_file-clause-err : goal.returns-in_err-put_file-clause-err
+returns-in_err-put_file-clause-err g c =
     let left = c.pieces.session in
     let after = c.next-count.new.self in
     let piece = take c.next-count.result c.next-count.new.into in
     let parts : left ≡ piece ++ after = cut_piece c.next-count.result c.next-count.new.into left after c.next-count.ensures.piece c.next-count.ensures.rest in
-    let some = c.in_err-put_file.ensures.begins in
-    gave_some c.args.file text (drop some.0 piece ++ after) (g.F.Files.disk c.args.files.now) (g.F.Files.disk c.put_file.new.files)
-    (told_then (g.F.Files.disk c.args.files.now) (g.F.Files.disk c.pieces.files) (g.F.Files.disk c.put_file.new.files) (Gave c.args.file text left) (WroteFirst c.args.file piece some.0) (Gave c.args.file text (drop some.0 piece ++ after)) c.pieces.invariant.told some.1 (λ d e f. gave_front c.args.file text left piece after some.0 d e f parts))
+    let p = err_from_is_err_and c.from_residual.result c.from_residual.ensures.1 in
+    rw (p.1, p.2) (part_stops c.in_err-put_file.field-0.0 c.args.file c.args.session.now left piece after (g.F.Files.told c.args.files.now) (g.F.Files.told c.pieces.files) (g.F.Files.told c.put_file.new.files) parts c.pieces.invariant.gave c.pieces.invariant.write_faults c.in_err-put_file.ensures.err)

@@ -1,15 +1,15 @@
 use Rattle.std.proofs.Common.{◌++◌, subst, ◌∙◌, List, ℕ}
 use Rattle.std.specs.Prelude.{decimal, codes}
-use Rattle.layout_server.specs.Headline.{Tells}
+use Rattle.layout_server.specs.Stops.{Tells}
 use Rattle.layout_server.proofs.Tells.{tells_first, tells_rest}
 use Rattle.layout_server.proofs.tell.tell_pair.Goals as goal
 
-pub returns-in-Ok-clause-line : goal.returns-in-Ok-clause-line
-returns-in-Ok-clause-line g c =
-    subst (λ (w : List ℕ). Tells (w ++ (codes " " ++ (decimal c.args.b ++ codes "\n"))) (g.O.Sink.written c.args.out.now) (g.O.Sink.written c.tell_number.new.out) (g.O.Sink.faults c.args.out.now) (g.O.Sink.faults c.tell_number.new.out) (g.O.Sink.ran_out c.tell_number.new.out)) (c.as_bytes.ensures.value ∙ c.format.ensures.text)
-    (tells_rest c.as_bytes.result.now (codes " " ++ (decimal c.args.b ++ codes "\n")) (g.O.Sink.written c.args.out.now) (g.O.Sink.written c.write_out.new.out) (g.O.Sink.written c.tell_number.new.out) (g.O.Sink.faults c.args.out.now) (g.O.Sink.faults c.write_out.new.out) (g.O.Sink.faults c.tell_number.new.out) (g.O.Sink.ran_out c.tell_number.new.out) c.in-Ok.ensures.ok c.in-Ok.ensures.cause c.tell_number.ensures.line)
+pub returns-in-Ok : goal.returns-in-Ok
+returns-in-Ok g c =
+    subst (λ (w : List ℕ). Tells (w ++ (codes " " ++ (decimal c.args.b ++ codes "\n"))) (g.O.Sink.told c.args.out.now) (g.O.Sink.told c.tell_number.new.out)) (c.as_bytes.ensures.value ∙ c.format.ensures.text)
+    (tells_rest c.as_bytes.result.now (codes " " ++ (decimal c.args.b ++ codes "\n")) (g.O.Sink.told c.args.out.now) (g.O.Sink.told c.put_out.new.out) (g.O.Sink.told c.tell_number.new.out) c.in-Ok.ensures.ok c.tell_number.ensures)
 
-pub returns-in-Err-clause-line : goal.returns-in-Err-clause-line
-returns-in-Err-clause-line g c =
-    subst (λ (w : List ℕ). Tells (w ++ (codes " " ++ (decimal c.args.b ++ codes "\n"))) (g.O.Sink.written c.args.out.now) (g.O.Sink.written c.write_out.new.out) (g.O.Sink.faults c.args.out.now) (g.O.Sink.faults c.write_out.new.out) (g.O.Sink.ran_out c.write_out.new.out)) (c.as_bytes.ensures.value ∙ c.format.ensures.text)
-    (tells_first c.in-Err.field-0 c.as_bytes.result.now (codes " " ++ (decimal c.args.b ++ codes "\n")) (g.O.Sink.written c.args.out.now) (g.O.Sink.written c.write_out.new.out) (g.O.Sink.faults c.args.out.now) (g.O.Sink.faults c.write_out.new.out) (g.O.Sink.ran_out c.args.out.now) (g.O.Sink.ran_out c.write_out.new.out) c.in-Err.ensures.begins c.in-Err.ensures.cause c.in-Err.ensures.memory)
+pub returns-in-Err : goal.returns-in-Err
+returns-in-Err g c =
+    subst (λ (w : List ℕ). Tells (w ++ (codes " " ++ (decimal c.args.b ++ codes "\n"))) (g.O.Sink.told c.args.out.now) (g.O.Sink.told c.put_out.new.out)) (c.as_bytes.ensures.value ∙ c.format.ensures.text)
+    (tells_first c.in-Err.field-0 c.as_bytes.result.now (codes " " ++ (decimal c.args.b ++ codes "\n")) (g.O.Sink.told c.args.out.now) (g.O.Sink.told c.put_out.new.out) c.in-Err.ensures.err)

@@ -3,10 +3,10 @@ use Rattle.std.specs.Prelude.{decimal, codes}
 use Rattle.layout_server.proofs.Tells.{tells_first, tells_rest}
 use Rattle.layout_server.proofs.tell.tell_unclean.Goals as goal
 
-pub returns-in-Ok-clause-line : goal.returns-in-Ok-clause-line
-returns-in-Ok-clause-line g c =
-    (tells_rest (codes "unclean ") (decimal c.args.a ++ (codes " " ++ (decimal c.args.b ++ codes "\n"))) (g.O.Sink.written c.args.out.now) (g.O.Sink.written c.write_out.new.out) (g.O.Sink.written c.tell_pair.new.out) (g.O.Sink.faults c.args.out.now) (g.O.Sink.faults c.write_out.new.out) (g.O.Sink.faults c.tell_pair.new.out) (g.O.Sink.ran_out c.tell_pair.new.out) c.in-Ok.ensures.ok c.in-Ok.ensures.cause c.tell_pair.ensures.line)
+pub returns-in-Ok : goal.returns-in-Ok
+returns-in-Ok g c =
+    tells_rest (codes "unclean ") (decimal c.args.a.0 ++ (codes " " ++ (decimal c.args.b.0 ++ codes "\n"))) (g.O.Sink.told c.args.out.now) (g.O.Sink.told c.put_out.new.out) (g.O.Sink.told c.tell_pair.new.out) c.in-Ok.ensures.ok c.tell_pair.ensures
 
-pub returns-in-Err-clause-line : goal.returns-in-Err-clause-line
-returns-in-Err-clause-line g c =
-    (tells_first c.in-Err.field-0 (codes "unclean ") (decimal c.args.a ++ (codes " " ++ (decimal c.args.b ++ codes "\n"))) (g.O.Sink.written c.args.out.now) (g.O.Sink.written c.write_out.new.out) (g.O.Sink.faults c.args.out.now) (g.O.Sink.faults c.write_out.new.out) (g.O.Sink.ran_out c.args.out.now) (g.O.Sink.ran_out c.write_out.new.out) c.in-Err.ensures.begins c.in-Err.ensures.cause c.in-Err.ensures.memory)
+pub returns-in-Err : goal.returns-in-Err
+returns-in-Err g c =
+    tells_first c.in-Err.field-0 (codes "unclean ") (decimal c.args.a.0 ++ (codes " " ++ (decimal c.args.b.0 ++ codes "\n"))) (g.O.Sink.told c.args.out.now) (g.O.Sink.told c.put_out.new.out) c.in-Err.ensures.err
