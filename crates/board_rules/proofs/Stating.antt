@@ -1,5 +1,5 @@
 -- The largest value that statements state.
-use Rattle.std.proofs.Common.{◌≡◌, ◌≤◌, ℕ, List, [], ◌∷◌, max, Bool, true, false, ◌&&◌, ◌||◌, arith, refl, sym, ap, ◌∙◌, subst}
+use Rattle.std.proofs.Common.{◌≡◌, ◌≤◌, ℕ, List, [], ◌∷◌, max, Bool, true, false, ◌&&◌, ◌||◌, arith, refl, ap, ◌∙◌, subst}
 use Rattle.std.specs.Prelude.{Option, Some, None, if◌then◌else◌}
 use Rattle.board_rules.specs.declared.design.Kind.{Kind}
 use Rattle.board_rules.specs.declared.design.Kind.TheVariants as kinds

@@ -8,12 +8,9 @@ use Rattle.area_geometry.specs.declared.shapes.Core.TheVariants.{Chain, Area}
 use Rattle.area_geometry.specs.declared.shapes.Shape.{Shape}
 use Rattle.board_items.specs.declared.items.Item.{Item}
 use Rattle.board_items.specs.declared.items.Item.TheVariants as items
-use Rattle.board_items.specs.declared.items.Padstack.{Padstack}
-use Rattle.board_rules.specs.declared.design.Stated.{Stated}
 use Rattle.board_rules.specs.declared.design.ClassRow.{ClassRow}
-use Rattle.board_rules.specs.declared.design.NetRow.{NetRow}
 use Rattle.board_rules.specs.declared.design.Parts.{Parts}
-use Rattle.board_rules.specs.Designs.{IsFitSize, AreThere, HasCore, IsFitShape, IsFitArea, IsFitClass, NamesThere, IsFitItem, IsSound}
+use Rattle.board_rules.specs.Designs.{IsFitSize, AreThere, HasCore, IsFitShape, IsFitClass, NamesThere, IsFitItem, IsSound}
 
 all_prop : {T : Type 0} (P : T → Type 0) → ((x : T) → IsProp (P x)) → (xs : List T) → IsProp (AllByRecursion P xs)
 all_prop P one [] = Unit-prop

@@ -27,6 +27,8 @@ pub use laws::{need_is_at_most_the_largest_clearance, need_is_the_same_both_ways
 #[cfg(test)]
 mod fits;
 #[cfg(test)]
+mod reason_tests;
+#[cfg(test)]
 mod samples;
 #[cfg(test)]
 mod tests;

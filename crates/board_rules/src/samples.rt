@@ -31,6 +31,17 @@ fn spot(alloc: Global, layer: u8) -> Result<Shape, AllocError>
     })
 }
 
+// A bar that leads 5 nm to the right.
+fn bar(alloc: Global) -> Result<Shape, AllocError>
+    ensures { IfOk result (IsFitShape 2) }
+{
+    Ok(Shape {
+        layer: 0,
+        core: Core::Chain(Points::from_slice(alloc, &[pt(0, 0), pt(5, 0)])?),
+        width: 600_000,
+    })
+}
+
 // Spots on these layers.
 pub(crate) fn spots(alloc: Global, layers: &[u8]) -> Result<Shapes, AllocError> {
     let mut shapes = Shapes::new(alloc);
@@ -100,7 +111,7 @@ fn two_spots(alloc: Global) -> Result<Shapes, AllocError>
 {
     let mut shapes = Shapes::new(alloc);
     shapes.push(spot(alloc, 1)?)?;
-    shapes.push(spot(alloc, 0)?)?;
+    shapes.push(bar(alloc)?)?;
     Ok(shapes)
 }
 
@@ -121,7 +132,13 @@ fn one_area(alloc: Global) -> Result<Areas, AllocError>
     ensures fit { IfOk result (AllByRecursion IsFitArea) }
 {
     let mut areas = Areas::new(alloc);
-    areas.push(Points::from_slice(alloc, &[pt(0, 0), pt(9, 0), pt(0, 9)])?)?;
+    let corners = [
+        pt(-5_000_000, -5_000_000),
+        pt(5_000_000, -5_000_000),
+        pt(5_000_000, 5_000_000),
+        pt(-5_000_000, 5_000_000),
+    ];
+    areas.push(Points::from_slice(alloc, &corners)?)?;
     Ok(areas)
 }
 

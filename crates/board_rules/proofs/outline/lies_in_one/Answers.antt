@@ -1,4 +1,4 @@
-use Rattle.std.proofs.Common.{◌≡◌, ◌≤◌, ◌+◌, ◌*◌, List, length, drop, arith, refl, sym, ap, ◌∙◌, subst, true, false}
+use Rattle.std.proofs.Common.{◌≡◌, ◌≤◌, ◌+◌, ◌*◌, List, length, drop, arith, refl, sym, subst, true, false}
 use Rattle.seg_geometry.specs.declared.points.Pt.{Pt}
 use Rattle.area_geometry.specs.Copper.{copper_of, pieces_of}
 use Rattle.area_geometry.specs.Apart.{LiesWithin}

@@ -1,4 +1,4 @@
-use Rattle.std.proofs.Common.{◌≤◌, ◌+◌, ◌*◌, length, take, drop, arith, refl, sym}
+use Rattle.std.proofs.Common.{◌≤◌, ◌+◌, length, take, drop, arith, refl, sym}
 use Rattle.std.proofs.lemmas.List.{take_all}
 use Rattle.std.proofs.lemmas.List.Elements.{All-same}
 use Rattle.area_geometry.specs.Copper.{Copper, copper_of, pieces_of}

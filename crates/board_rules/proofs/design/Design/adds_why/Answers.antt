@@ -1,4 +1,4 @@
-use Rattle.std.proofs.Common.{rules, ◌+◌, List, arith, inr}
+use Rattle.std.proofs.Common.{rules, List, arith, inr}
 use Rattle.board_items.specs.Formed.{IsFormedAdd}
 use Rattle.board_items.specs.declared.requests.Add.{Add}
 use Rattle.board_rules.specs.Reasons.{IsAddsReason}
