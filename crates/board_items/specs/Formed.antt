@@ -1,6 +1,7 @@
 -- The counts and numbers that a request may have.
 use Rattle.std.specs.Prelude.{ℕ, ◌≤◌, ◌<◌, ◌^◌, List, length}
 use Rattle.std.specs.List.{AllByRecursion}
+use Rattle.row_lists.specs.Limits.{width_limit_nm, wire_point_limit, delete_limit, add_limit, layer_limit, client_limit}
 use Rattle.seg_geometry.specs.Points.{IsInRange}
 use Rattle.seg_geometry.specs.declared.points.Pt.{Pt}
 use Rattle.board_items.specs.declared.requests.Add.{Add}
@@ -15,9 +16,9 @@ pub record IsFormedWire (net layer width : ℕ) (points : List Pt) : Type 0 wher
   pub net_fits : net < 2 ^ 32
   pub layer_fits : layer < 2 ^ 32
   pub some_width : 1 ≤ width
-  pub width_fits : width ≤ 100000000
+  pub width_fits : width ≤ width_limit_nm
   pub two_points : 2 ≤ length points
-  pub points_fit : length points ≤ 256
+  pub points_fit : length points ≤ wire_point_limit
   pub in_range : AllByRecursion IsInRange points
 
 -- the numbers of a via: its place is in range
@@ -32,19 +33,19 @@ IsFormedAdd (adds.Via net padstack place) = IsFormedVia net padstack place
 
 -- the numbers of an edit: up to 256 deletes and up to 64 adds
 pub record IsFormedEdit (deletes : List ℕ) (adds : List Add) : Type 0 where
-  pub deletes_fit : length deletes ≤ 256
+  pub deletes_fit : length deletes ≤ delete_limit
   pub numbers_fit : AllByRecursion (λ d. d < 2 ^ 32) deletes
-  pub adds_fit : length adds ≤ 64
+  pub adds_fit : length adds ≤ add_limit
   pub formed : AllByRecursion IsFormedAdd adds
 
 -- the numbers of a boundary: 1 to 32 layers, up to 256 points in range and up to 8 clients
 pub record IsFormedFence (layers : List ℕ) (area : List Pt) (clients : List ℕ) : Type 0 where
   pub some_layer : 1 ≤ length layers
-  pub layers_fit : length layers ≤ 32
+  pub layers_fit : length layers ≤ layer_limit
   pub layers_in : AllByRecursion (λ l. l < 256) layers
   pub points_fit : length area ≤ 256
   pub in_range : AllByRecursion IsInRange area
-  pub clients_fit : length clients ≤ 8
+  pub clients_fit : length clients ≤ client_limit
   pub clients_in : AllByRecursion (λ c. c < 256) clients
 
 abbrev pub IsFormed : Request → Type 0

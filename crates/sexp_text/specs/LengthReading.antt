@@ -4,6 +4,7 @@ use Rattle.std.specs.Prelude.{ℕ, ℤ, ◌+◌, ◌-◌, ◌*◌, ◌/◌, ◌^
 use Rattle.std.specs.List.{position, list_all}
 use Rattle.std.specs.Char.{is_digit}
 use Rattle.std.specs.Str.Parse.{digits_value}
+use Rattle.row_lists.specs.Limits.{coordinate_limit_nm}
 use Rattle.sexp_text.specs.declared.units.Unit.{Unit}
 use Rattle.sexp_text.specs.declared.num_fault.NumFault.{NumFault}
 use Rattle.sexp_text.specs.declared.num_fault.NumFault.TheVariants.{NotNumber, Range}
@@ -101,7 +102,7 @@ size_in per_unit d =
 
 -- a size with its sign, where it is at most 1,000,000,000 nm
 abbrev pub limited : Sign → ℕ → Result ℤ NumFault
-limited sign size = if nat_le size 1000000000 then Ok (signed sign size) else Err Range
+limited sign size = if nat_le size coordinate_limit_nm then Ok (signed sign size) else Err Range
 
 -- the length of a decimal in a unit of so many nm, where there is one
 abbrev pub length_by : ℕ → Option Decimal → Result ℤ NumFault

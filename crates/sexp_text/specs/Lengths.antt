@@ -1,6 +1,7 @@
 -- The length that a number text stands for in a unit, in whole nanometres.
 -- Models: the unit of dimension of the SPECCTRA reference, and this profile's rounding: to the nearest nanometre, half away from zero.
 use Rattle.std.specs.Prelude.{◌≡◌, ℕ, ℤ, pos, neg_ℤ, ◌+◌, ◌-◌, ◌*◌, ◌^◌, ◌<◌, ◌≤◌, List, Result, Ok, Err, ⊤}
+use Rattle.row_lists.specs.Limits.{coordinate_limit_nm}
 use Rattle.sexp_text.specs.declared.units.Unit.{Unit}
 use Rattle.sexp_text.specs.declared.units.Unit.TheVariants.{Inch, Mil, Cm, Mm, Um}
 use Rattle.sexp_text.specs.declared.num_fault.NumFault.{NumFault}
@@ -35,8 +36,8 @@ signed Minus k = neg_ℤ (pos k)
 
 -- the answer for a number: its length in nanometres, or `Range` exactly where that is above 1,000,000,000 in size
 abbrev pub IsLength : Number → ℕ → Result ℤ NumFault → Type 0
-IsLength n per_unit (Ok z) = (k : ℕ) × IsSize (decimal_of n) per_unit k × (k ≤ 1000000000) × (z ≡ signed n.sign k)
-IsLength n per_unit (Err Range) = (k : ℕ) × IsSize (decimal_of n) per_unit k × (1000000000 < k)
+IsLength n per_unit (Ok z) = (k : ℕ) × IsSize (decimal_of n) per_unit k × (k ≤ coordinate_limit_nm) × (z ≡ signed n.sign k)
+IsLength n per_unit (Err Range) = (k : ℕ) × IsSize (decimal_of n) per_unit k × (coordinate_limit_nm < k)
 IsLength n per_unit (Err NotNumber) = ⊥
 
 -- the text is a number where the answer isn't `NotNumber`
