@@ -3,3 +3,4 @@ pub mod Products
 pub mod Apart
 pub mod Ends
 pub mod Rectangles
+pub mod Near

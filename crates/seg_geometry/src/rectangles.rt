@@ -14,7 +14,7 @@ pub struct Rect {
 }
 
 /// The rectangle, stretched to hold the point too.
-fn stretched(r: Rect, p: Pt) -> Rect
+pub fn stretched(r: Rect, p: Pt) -> Rect
     ensures left { result.lo.x ≡ int_min r.lo.x p.x }
     ensures low { result.lo.y ≡ int_min r.lo.y p.y }
     ensures right { result.hi.x ≡ int_max r.hi.x p.x }
@@ -33,7 +33,7 @@ fn stretched(r: Rect, p: Pt) -> Rect
 }
 
 /// The rectangle, with each side moved out by `by` nm.
-fn grown(r: Rect, by: u64) -> Rect
+pub fn grown(r: Rect, by: u64) -> Rect
     requires low { IsInRange r.lo }
     requires high { IsInRange r.hi }
     requires by_small { by ≤ 1000000000 }
