@@ -126,6 +126,13 @@ impl Design {
         })
     }
 
+    /// What the design is made of.
+    pub fn parts(&self) -> &Parts
+        ensures { result.now ≡ self.now.parts }
+    {
+        &self.parts
+    }
+
     /// The design's name.
     pub fn name(&self) -> &Name
         ensures { result.now ≡ self.now.parts.name }

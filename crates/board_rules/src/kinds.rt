@@ -51,8 +51,8 @@ fn newer(row: &Stated, what: What, found: Option<u32>) -> Option<u32>
     }
 }
 
-// The value that the last statement of this thing gives.
-pub(crate) fn value_of(rows: &[Stated], what: What) -> Option<u32>
+/// The value in nm that the last statement of this thing gives.
+pub fn value_of(rows: &[Stated], what: What) -> Option<u32>
     ensures { result ≡ value_of what rows.now }
 {
     let mut found = None;

@@ -22,7 +22,9 @@ pub use design::{
     Areas, ClassRow, ClassRows, Design, Kind, Names, NetRow, NetRows, Parts, Stated, StatedRows,
     What,
 };
+pub use kinds::value_of;
 pub use laws::{need_is_at_most_the_largest_clearance, need_is_the_same_both_ways};
+pub use needs::pad_kind;
 
 #[cfg(test)]
 mod fits;

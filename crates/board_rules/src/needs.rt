@@ -40,8 +40,8 @@ fn is_on_one_layer(shapes: &[Shape]) -> bool
     }
 }
 
-// The kind of a pad of these shapes.
-fn pad_kind(shapes: &Shapes) -> Kind
+/// The kind of a pad of these shapes: `Smd` where they lie on exactly one layer, else `Pin`.
+pub fn pad_kind(shapes: &Shapes) -> Kind
     ensures { result ≡ (if is_on_one_layer shapes.now then Kind.Smd else Kind.Pin) }
 {
     if is_on_one_layer(shapes.as_slice()) {

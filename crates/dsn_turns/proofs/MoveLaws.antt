@@ -7,10 +7,11 @@ use Rattle.area_geometry.specs.declared.shapes.Core.TheVariants.{Chain, Area}
 use Rattle.area_geometry.specs.declared.shapes.Shape.{Shape}
 use Rattle.area_geometry.specs.Copper.{moved}
 use Rattle.dsn_turns.specs.declared.moves.Motion.{Motion}
-use Rattle.dsn_turns.specs.Turning.{within, turn_of, each_of, step_of, through, over_layer, core_moved, shape_moved, shapes_moved}
-use Rattle.dsn_turns.specs.Moves.{IsStepped, Leads, OneByOne, IsCoreMoved, IsMoved, AreMoved}
+use Rattle.dsn_turns.specs.Turning.{within, turned, turn_of, carried, each_of, step_of, through, over_layer, core_moved, shape_moved, shapes_moved}
+use Rattle.dsn_turns.specs.Moves.{IsStepped, IsCarried, Leads, OneByOne, IsCoreMoved, IsMoved, AreMoved}
+use Rattle.dsn_turns.specs.Turns.{IsTurned}
 use Rattle.dsn_turns.proofs.Ranges.{within_some, within_of, none_iff, then_iff}
-use Rattle.dsn_turns.proofs.TurnLaws.{turn_iff}
+use Rattle.dsn_turns.proofs.TurnLaws.{turned_is, turned_only, turn_iff}
 
 -- one by one
 
@@ -62,6 +63,17 @@ step_from s p q h =
 
 pub step_iff : (s : Motion) (p q : Pt) → (step_of s p ≡ Some q) ↔ IsStepped s p q
 step_iff s p q = (step_some s p q, step_from s p q)
+
+-- what is carried comes to lie at one place
+pub carried_is : (s : Motion) (p : Pt) → IsCarried s p (carried s p)
+carried_is s p = (turned p s.eighths s.flip, turned_is p s.eighths s.flip, refl)
+
+pub carried_only : (s : Motion) (p q : Pt) → IsCarried s p q → q ≡ carried s p
+carried_only s p q (turned, is, same) = same ∙ ap (moved s.by) (turned_only p s.eighths s.flip turned is)
+
+-- what is turned and then moved is carried
+pub carried_of : (s : Motion) (p turn q : Pt) → turn ≡ turned p s.eighths s.flip → q ≡ moved s.by turn → IsCarried s p q
+carried_of s p turn q is same = (turn, subst (IsTurned p s.eighths s.flip) (sym is) (turned_is p s.eighths s.flip), same)
 
 leads_some : (steps : List Motion) (p q : Pt) → through steps p ≡ Some q → Leads steps p q
 unfolding through

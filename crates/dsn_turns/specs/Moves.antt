@@ -19,6 +19,10 @@ pub record IsStepped (s : Motion) (p q : Pt) : Type 0 where
   pub move : q ≡ moved s.by turned
   pub move_in_range : IsInRange q
 
+-- q is p after the turn and the move of a step, wherever it comes to lie
+abbrev pub IsCarried : Motion → Pt → Pt → Type 0
+IsCarried s p q = (turned : Pt) × IsTurned p s.eighths s.flip turned × (q ≡ moved s.by turned)
+
 -- the steps, one after another, lead from p to q
 abbrev pub Leads : List Motion → Pt → Pt → Type 0
 Leads [] p q = q ≡ p

@@ -63,6 +63,10 @@ each_of f (x ∷ xs) = and_then (f x) (λ y. and_then (each_of f xs) (λ ys. Som
 unfoldable pub step_of : Motion → Pt → Option Pt
 step_of s p = and_then (turn_of p s.eighths s.flip) (λ q. within (moved s.by q))
 
+-- the point after a turn and the move behind it, wherever it comes to lie
+abbrev pub carried : Motion → Pt → Pt
+carried s p = moved s.by (turned p s.eighths s.flip)
+
 -- the point after the steps in order
 unfoldable pub through : List Motion → Pt → Option Pt
 through [] p = Some p

@@ -7,6 +7,10 @@ use Rattle.dsn_turns.specs.declared.turns.Wide.{Wide}
 abbrev pub point_of : Wide → Pt
 point_of w = record { x = w.x; y = w.y }
 
+-- the same with the type of points that may be far
+abbrev pub wide_of : Pt → Wide
+wide_of p = record { x = p.x; y = p.y }
+
 -- neither coordinate is farther than this from 0
 pub record IsAtMost (limit : ℕ) (w : Wide) : Type 0 where
   pub x : unsigned_abs w.x ≤ limit

@@ -4,8 +4,8 @@
 mod moves;
 mod turns;
 
-pub use moves::{Motion, moved_shapes};
-pub use turns::{Flip, turn};
+pub use moves::{Motion, carried, moved_shapes};
+pub use turns::{Flip, Wide, turn};
 
 #[cfg(test)]
 mod tests;

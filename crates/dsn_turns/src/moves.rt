@@ -1,12 +1,12 @@
 //! Shapes led through turns and moves.
-ghost use Rattle.std.specs.Prelude.{◌≡◌, ℕ, List, Option, IfOk, IfSome, IfNone};
+ghost use Rattle.std.specs.Prelude.{◌≡◌, ◌^◌, ℕ, List, Option, IfOk, IfSome, IfNone};
 ghost use Rattle.area_geometry.specs.declared.shapes.Shape.{Shape};
 ghost use Rattle.area_geometry.specs.Copper.{moved};
-ghost use Rattle.dsn_turns.specs.Wides.{point_of};
-ghost use Rattle.dsn_turns.specs.Turning.{each_of, step_of, through, over_layer, core_moved, shape_moved, shapes_moved};
-ghost use Rattle.dsn_turns.specs.Moves.{AreMoved};
+ghost use Rattle.dsn_turns.specs.Wides.{point_of, wide_of, IsAtMost};
+ghost use Rattle.dsn_turns.specs.Turning.{carried, each_of, step_of, through, over_layer, core_moved, shape_moved, shapes_moved};
+ghost use Rattle.dsn_turns.specs.Moves.{IsCarried, AreMoved};
 
-use crate::turns::{Flip, Wide, narrowed, turn};
+use crate::turns::{Flip, Wide, narrowed, turn, turned};
 use area_geometry::{Core, Shape, Shapes};
 use seg_geometry::{Points, Pt};
 use std::alloc::{AllocError, Global};
@@ -29,6 +29,25 @@ fn sum_of(p: Pt, by: Pt) -> Wide
         x: i128::from(p.x) + i128::from(by.x),
         y: i128::from(p.y) + i128::from(by.y),
     }
+}
+
+// A point that may be far out of range, moved by another.
+fn wide_sum(p: Wide, by: Pt) -> Wide
+    requires { IsAtMost (2 ^ 64) p }
+    ensures { point_of result ≡ moved by (point_of p) }
+{
+    Wide {
+        x: p.x + i128::from(by.x),
+        y: p.y + i128::from(by.y),
+    }
+}
+
+/// The point after a turn about the origin and the move behind it, wherever it comes to lie.
+pub fn carried(step: Motion, p: Pt) -> Wide
+    ensures led { IsCarried step p (point_of result) }
+    ensures reads { result ≡ wide_of (carried step p) }
+{
+    wide_sum(turned(p, step.eighths, step.flip), step.by)
 }
 
 // The point after a step, where it is in range after the turn and after the move.

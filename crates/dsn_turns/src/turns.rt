@@ -24,8 +24,8 @@ pub enum Flip {
 }
 
 /// A point with whole coordinates, in nanometres, that may be far out of range.
-#[derive(Clone, Copy)]
-pub(crate) struct Wide {
+#[derive(Clone, Copy, Debug, PartialEq, Eq)]
+pub struct Wide {
     pub x: i128,
     pub y: i128,
 }
@@ -98,7 +98,8 @@ fn before_turn(p: Pt, flip: Flip) -> Wide
 // The point, mirrored where that comes after the turn.
 fn after_turn(p: Wide, flip: Flip) -> Wide
     requires { IsAtMost (2 ^ 64) p }
-    ensures { point_of result ≡ flipped_after flip (point_of p) }
+    ensures point { point_of result ≡ flipped_after flip (point_of p) }
+    ensures bound { IsAtMost (2 ^ 64) result }
 {
     match flip {
         Flip::After => Wide { x: -p.x, y: p.y },
@@ -123,13 +124,22 @@ pub(crate) fn narrowed(p: Wide) -> Option<Pt>
     })
 }
 
+/// The turned point, wherever it comes to lie.
+#[tactic(auto, unfolding(crate::specs::Turning::turned))]
+pub(crate) fn turned(p: Pt, eighths: u8, flip: Flip) -> Wide
+    ensures point { point_of result ≡ turned p eighths flip }
+    ensures bound { IsAtMost (2 ^ 64) result }
+{
+    let begun = after_eighth(before_turn(p, flip), eighths);
+    after_turn(after_quarters(begun, eighths / 2), flip)
+}
+
 // The turned point where it is in range.
-#[tactic(auto, unfolding(crate::specs::Turning::turn_of, crate::specs::Turning::turned))]
+#[tactic(auto, unfolding(crate::specs::Turning::turn_of))]
 fn turned_within(p: Pt, eighths: u8, flip: Flip) -> Option<Pt>
     ensures { result ≡ turn_of p eighths flip }
 {
-    let begun = after_eighth(before_turn(p, flip), eighths);
-    narrowed(after_turn(after_quarters(begun, eighths / 2), flip))
+    narrowed(turned(p, eighths, flip))
 }
 
 /// The point turned about the origin by eighths of a turn, from the x axis towards the y axis, and
