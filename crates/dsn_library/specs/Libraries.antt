@@ -2,6 +2,7 @@
 -- Models: the library and padstack descriptors of the SPECCTRA reference. Left out: holes, and rotated and absolute
 -- padstacks, which are refused.
 use Rattle.std.specs.Prelude.{ℕ, nat_lt, true, false, List, [], ◌∷◌, ◌++◌, codes, length, Ok, if◌then◌else◌}
+use Rattle.row_lists.specs.Limits.{padstack_limit}
 use Rattle.sexp_text.specs.Forest.{Forest, End, Word, Branch}
 use Rattle.sexp_text.specs.declared.units.Unit.{Unit as LengthUnit}
 use Rattle.board_items.specs.declared.items.Padstack.{Padstack}
@@ -61,7 +62,7 @@ as_stack at name d = if d.drawn then Ok (record { name = name; shapes = d.shapes
 unfoldable pub stack_of : LengthUnit → List (List ℕ) → List (List ℕ) → ℕ → Forest → Read Padstack
 stack_of u layers names at f = do
   w ← word_of at f
-  _ ← new_name 65535 names w.0
+  _ ← new_name padstack_limit names w.0
   d ← each (stack_item u layers) nothing_drawn w.1
   as_stack at w.0.name d
 

@@ -1,6 +1,7 @@
 -- What a library section stands for, said of its whole lists, and what is wrong with one that stands for nothing.
 -- Models: the library descriptor of the SPECCTRA reference.
 use Rattle.std.specs.Prelude.{◌≡◌, ℕ, ◌≤◌, ◌⊎◌, List, length}
+use Rattle.row_lists.specs.Limits.{padstack_limit}
 use Rattle.sexp_text.specs.Forest.{Forest}
 use Rattle.sexp_text.specs.declared.units.Unit.{Unit as LengthUnit}
 use Rattle.dsn_lists.specs.declared.faults.DesignFault.{DesignFault}
@@ -31,7 +32,7 @@ pub record IsSection (u : LengthUnit) (layers stacks : List (List ℕ)) (f : For
   pub formed : Every (IsLibraryList u layers stacks) f
   pub names : l.names ≡ collect names_in f
   pub fresh : AreFresh l.names
-  pub few : length l.names ≤ 65535
+  pub few : length l.names ≤ padstack_limit
   pub stacks_are : AreStacks u layers (collect stacks_in f) l.stacks
   pub image_names : l.image_names ≡ collect image_names_in f
   pub image_fresh : AreFresh l.image_names

@@ -1,6 +1,7 @@
 -- A library within the limits.
 use Rattle.std.specs.Prelude.{◌≡◌, ℕ, ◌≤◌, ◌<◌, length}
 use Rattle.std.specs.List.{AllByRecursion}
+use Rattle.row_lists.specs.Limits.{padstack_limit}
 use Rattle.seg_geometry.specs.Points.{IsInRange}
 use Rattle.board_items.specs.declared.items.Padstack.{Padstack}
 use Rattle.dsn_shapes.specs.Limits.{AreFitDrawn}
@@ -25,7 +26,7 @@ IsFitImage layers stacks m = AllByRecursion (IsFitImagePart layers stacks (lengt
 
 -- at most 65,535 padstacks and any number of images, each with a name; all are within the limits, on so many layers
 pub record IsFitLibrary (layers : ℕ) (l : Library) : Type 0 where
-  pub few : length l.stacks ≤ 65535
+  pub few : length l.stacks ≤ padstack_limit
   pub names : length l.names ≡ length l.stacks
   pub shapes : AllByRecursion (IsFitStack layers) l.stacks
   pub image_names : length l.image_names ≡ length l.images

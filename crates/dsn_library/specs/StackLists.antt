@@ -2,6 +2,7 @@
 -- Models: the padstack descriptor of the SPECCTRA reference. Left out: rotated and absolute padstacks, which are refused.
 use Rattle.std.specs.Prelude.{◌≡◌, ℕ, ◌<◌, ◌⊎◌, Bool, true, false, List, [], ◌∷◌, codes, length}
 use Rattle.std.specs.List.{flat_map}
+use Rattle.row_lists.specs.Limits.{padstack_limit}
 use Rattle.sexp_text.specs.Forest.{Forest, End, Word, Branch}
 use Rattle.sexp_text.specs.declared.units.Unit.{Unit as LengthUnit}
 use Rattle.area_geometry.specs.declared.shapes.Shape.{Shape}
@@ -80,5 +81,5 @@ NoStackFault u layers at f e = IsFirst (AreStackLists u layers) (StackListFault 
 -- the fault of a padstack behind padstacks of these names: its name isn't new, or its lists are at fault
 abbrev pub StackFault : LengthUnit → List (List ℕ) → List (List ℕ) → ℕ → Forest → DesignFault → Type 0
 StackFault u layers names at f e =
-    NoWordOr (λ a text rest e. OldNameFault 65535 names text a e
-    ⊎ (IsNewName 65535 names text × NoStackFault u layers at rest e)) at f e
+    NoWordOr (λ a text rest e. OldNameFault padstack_limit names text a e
+    ⊎ (IsNewName padstack_limit names text × NoStackFault u layers at rest e)) at f e

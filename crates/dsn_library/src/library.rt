@@ -1,5 +1,6 @@
 //! The section that says what padstacks and images there are.
 ghost use Rattle.std.specs.Prelude.{◌≡◌, ◌≤◌, false, length, IfOk, IfErr, OnOk, Ok, Err};
+ghost use Rattle.row_lists.specs.Limits.{layer_limit};
 ghost use Rattle.dsn_structure.specs.Limits.{IsFitStructure};
 ghost use Rattle.sexp_text.specs.Shows.{forest};
 ghost use Rattle.sexp_text.specs.Trees.{tree_forest};
@@ -179,7 +180,7 @@ pub fn read_library(alloc: Global, tree: &Tree, structure: &Structure) -> Result
 
 #[tactic(auto, unfolding(crate::specs::Libraries::library_of))]
 fn section(alloc: Global, tree: &Tree, structure: &Structure) -> Result<Library, ReadWhy>
-    requires { length structure.now.layers ≤ 32 }
+    requires { length structure.now.layers ≤ layer_limit }
     ensures { Gives (λ x. x) result (library_of (tree_forest tree.now) structure.now.layers) }
 {
     let title = title_of(alloc, tree)?;

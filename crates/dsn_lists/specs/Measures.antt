@@ -1,6 +1,7 @@
 -- The lengths, widths and units that words state.
 -- Models: the unit descriptor of the SPECCTRA reference; a width, diameter, aperture or clearance is 0 to a tenth of a metre.
 use Rattle.std.specs.Prelude.{◌≡◌, ◌≤◌, ℕ, ℤ, pos, ◌<ℤ◌, ◌⊎◌, true, List, [], codes, Some, None, option_to_list, Result, Ok, Err, if◌then◌else◌}
+use Rattle.row_lists.specs.Limits.{width_limit_nm}
 use Rattle.sexp_text.specs.Forest.{Forest, End, Word, Branch}
 use Rattle.sexp_text.specs.declared.units.Unit.{Unit as LengthUnit}
 use Rattle.sexp_text.specs.declared.num_fault.NumFault.{NumFault}
@@ -23,7 +24,7 @@ Measures u text r = (n : Number) × IsNumber n × (text ≡ spelling n) × IsLen
 
 -- the text states this width in nm, of at most 100,000,000
 abbrev pub IsWidth : LengthUnit → List ℕ → ℕ → Type 0
-IsWidth u text n = Measures u text (Ok (pos n)) × (n ≤ 100000000)
+IsWidth u text n = Measures u text (Ok (pos n)) × (n ≤ width_limit_nm)
 
 -- the text states a width
 abbrev pub StatesWidth : LengthUnit → List ℕ → Type 0
@@ -33,7 +34,7 @@ StatesWidth u text = (n : ℕ) × IsWidth u text n
 abbrev pub NoWidth : LengthUnit → List ℕ → DesignKind → Type 0
 NoWidth u text kind.Number = IsNumberText text → ⊥
 NoWidth u text kind.Range = Measures u text (Err Range)
-NoWidth u text kind.Width = (z : ℤ) × Measures u text (Ok z) × ((z <ℤ pos 0) ⊎ (pos 100000000 <ℤ z))
+NoWidth u text kind.Width = (z : ℤ) × Measures u text (Ok z) × ((z <ℤ pos 0) ⊎ (pos width_limit_nm <ℤ z))
 NoWidth u text _ = ⊥
 
 -- the fault of a word at this byte that is to state a width

@@ -1,5 +1,6 @@
 -- Lengths and widths in words.
 use Rattle.std.specs.Prelude.{ℕ, ℤ, pos, int_lt, unsigned_abs, ◌||◌, List, Result, Ok, Err, if◌then◌else◌}
+use Rattle.row_lists.specs.Limits.{width_limit_nm}
 use Rattle.sexp_text.specs.declared.units.Unit.{Unit as LengthUnit}
 use Rattle.sexp_text.specs.declared.num_fault.NumFault.{NumFault}
 use Rattle.sexp_text.specs.declared.num_fault.NumFault.TheVariants as num
@@ -19,7 +20,7 @@ length_word u w = length_told w.at (length_in u w.name)
 
 -- a length of 0 to 100,000,000 nm
 unfoldable pub as_width : ℕ → ℤ → Read ℕ
-as_width at z = if int_lt z (pos 0) || int_lt (pos 100000000) z then wrong kind.Width at else Ok (unsigned_abs z)
+as_width at z = if int_lt z (pos 0) || int_lt (pos width_limit_nm) z then wrong kind.Width at else Ok (unsigned_abs z)
 
 -- the width, diameter, aperture or clearance in nm that a word states
 unfoldable pub width_word : LengthUnit → Mark → Read ℕ

@@ -2,6 +2,7 @@
 -- Models: the net and pins descriptors of the SPECCTRA reference.
 use Rattle.std.specs.Prelude.{◌≡◌, ℕ, ◌⊎◌, true, List, codes}
 use Rattle.std.specs.List.{AllByRecursion}
+use Rattle.row_lists.specs.Limits.{net_limit}
 use Rattle.sexp_text.specs.Forest.{Forest, End, Word, Branch}
 use Rattle.dsn_lists.specs.declared.faults.DesignFault.{DesignFault}
 use Rattle.dsn_lists.specs.declared.faults.DesignKind.TheVariants as kind
@@ -57,5 +58,5 @@ AreNetLists p l earlier f = Every IsNetList f × AllByRecursion (NamesFreePin p 
 -- the fault of a net: its name isn't new, or a list of it is at fault
 abbrev pub NetFault : Placement → Library → List (List ℕ) → List (List ℕ × ℕ) → ℕ → Forest → DesignFault → Type 0
 NetFault p l names earlier at f e =
-    NoWordOr (λ a text rest e. OldNameFault 100000 names text a e
-    ⊎ (IsNewName 100000 names text × IsFirst (AreNetLists p l earlier) (NetListFault p l earlier) rest e)) at f e
+    NoWordOr (λ a text rest e. OldNameFault net_limit names text a e
+    ⊎ (IsNewName net_limit names text × IsFirst (AreNetLists p l earlier) (NetListFault p l earlier) rest e)) at f e

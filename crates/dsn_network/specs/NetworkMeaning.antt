@@ -1,6 +1,7 @@
 -- What a network section stands for, said of its whole lists, and what is wrong with one that stands for nothing.
 -- Models: the network descriptor of the SPECCTRA reference.
 use Rattle.std.specs.Prelude.{◌≡◌, ℕ, ◌≤◌, ◌⊎◌, List, length}
+use Rattle.row_lists.specs.Limits.{net_limit}
 use Rattle.sexp_text.specs.Forest.{Forest}
 use Rattle.sexp_text.specs.declared.units.Unit.{Unit as LengthUnit}
 use Rattle.dsn_lists.specs.declared.faults.DesignFault.{DesignFault}
@@ -34,7 +35,7 @@ pub record IsSection (u : LengthUnit) (p : Placement) (l : Library) (f : Forest)
   pub formed : Every (IsNetworkList u) f
   pub nets : n.nets ≡ collect nets_in f
   pub fresh : AreFresh n.nets
-  pub few : length n.nets ≤ 100000
+  pub few : length n.nets ≤ net_limit
   pub pins : ArePins p l (references f) n.pins
   pub classes : AreClasses u (collect classes_in f) n.classes
   pub quota : n.quota ≡ p.quota

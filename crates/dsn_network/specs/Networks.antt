@@ -2,6 +2,7 @@
 -- Models: the network, net, pins, class, circuit and use_via descriptors of the SPECCTRA reference.
 -- Left out: class_class and all other lists.
 use Rattle.std.specs.Prelude.{ℕ, suc, nat_lt, ◌==◌, List, [], ◌∷◌, ◌++◌, set, get_or, codes, length, Option, Some, None, Ok, if◌then◌else◌}
+use Rattle.row_lists.specs.Limits.{net_limit}
 use Rattle.sexp_text.specs.Forest.{Forest, End, Word, Branch}
 use Rattle.sexp_text.specs.declared.units.Unit.{Unit as LengthUnit}
 use Rattle.dsn_lists.specs.declared.faults.DesignKind.TheVariants as kind
@@ -54,7 +55,7 @@ net_item p l net pins at inside = if same (head_of inside).text (codes "pins") t
 unfoldable pub with_net : Placement → Library → Network → ℕ → Forest → Read Network
 with_net p l n at f = do
   w ← word_of at f
-  _ ← new_name 100000 n.nets w.0
+  _ ← new_name net_limit n.nets w.0
   pins ← each (net_item p l (length n.nets)) n.pins w.1
   Ok (record n { nets = n.nets ++ w.0.name ∷ []; pins = pins })
 

@@ -77,9 +77,9 @@ of_image layers (m ∷ ms) zero h = h.0
 of_image layers (m ∷ ms) (suc n) h = of_image layers ms n h.1
 
 part_fit : (g : Ground) (p : Pose) (n : ℕ) (q : ImagePart) (x : PlacedPart) → AllByRecursion (λ (s : Padstack). AreFitDrawn g.layers s.shapes) g.stacks → IsFitPart g.layers q → IsPlaced g p n q x → IsFitPlaced g.layers x
-part_fit g p n (parts.Pin stack id eighths at) (placed.Pad component pin ss) stacks h m = shapes_fit _ p.side g.layers (shapes_of (slice_get g.stacks stack)) ss (of_stack g.layers g.stacks stack stacks) m.2
+part_fit g p n (parts.Pin stack id eighths at) (placed.Pad component pin place ss) stacks h m = shapes_fit _ p.side g.layers (shapes_of (slice_get g.stacks stack)) ss (of_stack g.layers g.stacks stack stacks) m.3
 part_fit g p n (parts.Pin stack id eighths at) (placed.Keep k ss) stacks h m = absurd m
-part_fit g p n (parts.Keep k shapes) (placed.Pad component pin ss) stacks h m = absurd m
+part_fit g p n (parts.Keep k shapes) (placed.Pad component pin place ss) stacks h m = absurd m
 part_fit g p n (parts.Keep k shapes) (placed.Keep kind ss) stacks h m = shapes_fit _ p.side g.layers shapes ss h m.1
 
 parts_fit : (g : Ground) (o : Option Pose) (n : ℕ) (qs : List ImagePart) (ps : List PlacedPart) → AllByRecursion (λ (s : Padstack). AreFitDrawn g.layers s.shapes) g.stacks → AllByRecursion (IsFitPart g.layers) qs → ArePlaced g o n qs ps

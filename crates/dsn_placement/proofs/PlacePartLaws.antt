@@ -4,7 +4,10 @@ use Rattle.std.proofs.lemmas.List.{append-nil, length-append}
 use Rattle.std.proofs.lemmas.List.Sums.{sum_by-cons, sum_by-append}
 use Rattle.area_geometry.specs.declared.shapes.Shape.{Shape}
 use Rattle.dsn_turns.specs.Moves.{OneByOne}
-use Rattle.dsn_turns.proofs.MoveLaws.{shapes_iff}
+use Rattle.dsn_turns.specs.declared.moves.Motion.{Motion}
+use Rattle.dsn_turns.specs.Wides.{point_of, wide_of}
+use Rattle.dsn_turns.specs.Turning.{carried}
+use Rattle.dsn_turns.proofs.MoveLaws.{carried_is, carried_only, shapes_iff}
 use Rattle.dsn_lists.specs.declared.faults.DesignFault.{DesignFault}
 use Rattle.dsn_lists.specs.declared.faults.DesignKind.TheVariants as kind
 use Rattle.dsn_lists.specs.Lists.{told}
@@ -19,7 +22,7 @@ use Rattle.dsn_placement.specs.declared.placement.PlacedPart.{PlacedPart}
 use Rattle.dsn_placement.specs.declared.placement.PlacedPart.TheVariants as placed
 use Rattle.dsn_placement.specs.declared.placement.Placement.{Placement}
 use Rattle.dsn_placement.specs.declared.poses.Pose.{Pose}
-use Rattle.dsn_placement.specs.Placements.{Ground, shapes_placed, part_placed, put_placed, with_shapes, with_part, with_parts}
+use Rattle.dsn_placement.specs.Placements.{Ground, step_of_pose, shapes_placed, part_placed, put_placed, with_shapes, with_part, with_parts}
 use Rattle.dsn_placement.specs.PlaceParts.{PartMoves, IsPlaced, shapes_of_placed, points_of_parts, AreTaken, NoPlace, PartsFault}
 
 -- ---- the shapes of a part
@@ -44,19 +47,21 @@ none_again g p q none = by (shapes_placed g p q) refl
     by None is = refl
     by (Some ss) is = absurd (none ss (moves_found g p q ss is))
 
-placed_of : (g : Ground) (p : Pose) (n : ℕ) (q : ImagePart) (ss : List Shape) → PartMoves g p q ss → IsPlaced g p n q (part_placed n q ss)
-placed_of g p n (parts.Pin stack id eighths at) ss h = (refl, refl, h)
+placed_of : (g : Ground) (p : Pose) (n : ℕ) (q : ImagePart) (ss : List Shape) → PartMoves g p q ss → IsPlaced g p n q (part_placed (step_of_pose g.flip p) n q ss)
+placed_of g p n (parts.Pin stack id eighths at) ss h = (refl, refl, carried_is (step_of_pose g.flip p) at, h)
 placed_of g p n (parts.Keep k shapes) ss h = (refl, h)
 
-of_placed : (g : Ground) (p : Pose) (n : ℕ) (q : ImagePart) (x : PlacedPart) → IsPlaced g p n q x → (ss : List Shape) × PartMoves g p q ss × (part_placed n q ss ≡ x)
-of_placed g p n (parts.Pin stack id eighths at) (placed.Pad component pin ss) h = (ss, h.2, λ i. placed.Pad (sym h.0 i) (sym h.1 i) ss)
+of_placed : (g : Ground) (p : Pose) (n : ℕ) (q : ImagePart) (x : PlacedPart) → IsPlaced g p n q x → (ss : List Shape) × PartMoves g p q ss × (part_placed (step_of_pose g.flip p) n q ss ≡ x)
+of_placed g p n (parts.Pin stack id eighths at) (placed.Pad component pin place ss) h =
+    let same : place ≡ wide_of (carried (step_of_pose g.flip p) at) = ap wide_of (carried_only (step_of_pose g.flip p) at (point_of place) h.2) in
+    (ss, h.3, λ i. placed.Pad (sym h.0 i) (sym h.1 i) (sym same i) ss)
 of_placed g p n (parts.Pin stack id eighths at) (placed.Keep k ss) h = absurd h
-of_placed g p n (parts.Keep k shapes) (placed.Pad component pin ss) h = absurd h
+of_placed g p n (parts.Keep k shapes) (placed.Pad component pin place ss) h = absurd h
 of_placed g p n (parts.Keep k shapes) (placed.Keep kind ss) h = (ss, h.1, λ i. placed.Keep (sym h.0 i) ss)
 
-same_shapes : (n : ℕ) (q : ImagePart) (ss : List Shape) → shapes_of_placed (part_placed n q ss) ≡ ss
-same_shapes n (parts.Pin stack id eighths at) ss = refl
-same_shapes n (parts.Keep k shapes) ss = refl
+same_shapes : (step : Motion) (n : ℕ) (q : ImagePart) (ss : List Shape) → shapes_of_placed (part_placed step n q ss) ≡ ss
+same_shapes step n (parts.Pin stack id eighths at) ss = refl
+same_shapes step n (parts.Keep k shapes) ss = refl
 
 -- ---- quota
 
@@ -141,39 +146,39 @@ part_found : (g : Ground) (p : Pose) (at n : ℕ) (pl m : Placement) (q : ImageP
 unfolding with_part
 part_found g p at n pl m q e = by (shapes_placed g p q) refl e
   where
-    by : (o : Option (List Shape)) → shapes_placed g p q ≡ o → with_shapes at n pl q o ≡ Ok m
+    by : (o : Option (List Shape)) → shapes_placed g p q ≡ o → with_shapes (step_of_pose g.flip p) at n pl q o ≡ Ok m
         → (x : PlacedPart) × (left : Quota) × IsPlaced g p n q x × IsTaken pl.quota (points_of_shapes (shapes_of_placed x)) left × (putting pl (x ∷ []) left ≡ m)
     by None is e = absurd cc
     by (Some ss) is e =
-        let r = put_found at pl m (part_placed n q ss) (quota_behind pl.quota ss) e in
+        let r = put_found at pl m (part_placed (step_of_pose g.flip p) n q ss) (quota_behind pl.quota ss) e in
         let taken = quota_found pl.quota r.0 (points_of_shapes ss) (sym (quota_behind_is pl.quota ss) ∙ r.1) in
-        (part_placed n q ss, r.0, placed_of g p n q ss (moves_found g p q ss is), subst (λ (ts : List Shape). IsTaken pl.quota (points_of_shapes ts) r.0) (sym (same_shapes n q ss)) taken, r.2)
+        (part_placed (step_of_pose g.flip p) n q ss, r.0, placed_of g p n q ss (moves_found g p q ss is), subst (λ (ts : List Shape). IsTaken pl.quota (points_of_shapes ts) r.0) (sym (same_shapes (step_of_pose g.flip p) n q ss)) taken, r.2)
 
 part_again : (g : Ground) (p : Pose) (at n : ℕ) (pl : Placement) (left : Quota) (q : ImagePart) (x : PlacedPart) → IsPlaced g p n q x → IsTaken pl.quota (points_of_shapes (shapes_of_placed x)) left
     → with_part g p at n pl q ≡ Ok (putting pl (x ∷ []) left)
 unfolding with_part
 part_again g p at n pl left q x h taken =
     let ss = of_placed g p n q x h in
-    let same : shapes_of_placed x ≡ ss.0 = ap shapes_of_placed (sym ss.2) ∙ same_shapes n q ss.0 in
+    let same : shapes_of_placed x ≡ ss.0 = ap shapes_of_placed (sym ss.2) ∙ same_shapes (step_of_pose g.flip p) n q ss.0 in
     let quota : quota_behind pl.quota ss.0 ≡ Some left = quota_behind_is pl.quota ss.0 ∙ quota_again pl.quota left (points_of_shapes ss.0) (subst (λ (ts : List Shape). IsTaken pl.quota (points_of_shapes ts) left) same taken) in
-    ap (λ (o : Option (List Shape)). with_shapes at n pl q o) (moves_again g p q ss.0 ss.1) ∙ ap (λ (o : Option Quota). put_placed at pl (part_placed n q ss.0) o) quota ∙ ap (λ (y : PlacedPart). made (putting pl (y ∷ []) left)) ss.2
+    ap (λ (o : Option (List Shape)). with_shapes (step_of_pose g.flip p) at n pl q o) (moves_again g p q ss.0 ss.1) ∙ ap (λ (o : Option Quota). put_placed at pl (part_placed (step_of_pose g.flip p) n q ss.0) o) quota ∙ ap (λ (y : PlacedPart). made (putting pl (y ∷ []) left)) ss.2
 
 part_fault : (g : Ground) (p : Pose) (at n : ℕ) (pl : Placement) (q : ImagePart) (e : DesignFault) → with_part g p at n pl q ≡ Err e → NoPlace g p pl.quota at q e
 unfolding with_part
 part_fault g p at n pl q e h = by (shapes_placed g p q) refl h
   where
-    by : (o : Option (List Shape)) → shapes_placed g p q ≡ o → with_shapes at n pl q o ≡ Err e → NoPlace g p pl.quota at q e
+    by : (o : Option (List Shape)) → shapes_placed g p q ≡ o → with_shapes (step_of_pose g.flip p) at n pl q o ≡ Err e → NoPlace g p pl.quota at q e
     by None is h = inl (none_found g p q is, cc)
     by (Some ss) is h =
-        let r = put_fault at pl (part_placed n q ss) (quota_behind pl.quota ss) e h in
+        let r = put_fault at pl (part_placed (step_of_pose g.flip p) n q ss) (quota_behind pl.quota ss) e h in
         inr (ss, moves_found g p q ss is, quota_fault pl.quota (points_of_shapes ss) (sym (quota_behind_is pl.quota ss) ∙ r.0), r.1)
 
 part_fault_again : (g : Ground) (p : Pose) (at n : ℕ) (pl : Placement) (q : ImagePart) (e : DesignFault) → NoPlace g p pl.quota at q e → with_part g p at n pl q ≡ Err e
 unfolding with_part
-part_fault_again g p at n pl q e (inl far) = ap (λ (o : Option (List Shape)). with_shapes at n pl q o) (none_again g p q far.0) ∙ ap failed (sym far.1)
+part_fault_again g p at n pl q e (inl far) = ap (λ (o : Option (List Shape)). with_shapes (step_of_pose g.flip p) at n pl q o) (none_again g p q far.0) ∙ ap failed (sym far.1)
 part_fault_again g p at n pl q e (inr full) =
     let quota : quota_behind pl.quota full.0 ≡ None = quota_behind_is pl.quota full.0 ∙ quota_fault_again pl.quota (points_of_shapes full.0) full.2 in
-    ap (λ (o : Option (List Shape)). with_shapes at n pl q o) (moves_again g p q full.0 full.1) ∙ ap (λ (o : Option Quota). put_placed at pl (part_placed n q full.0) o) quota ∙ ap failed (sym full.3)
+    ap (λ (o : Option (List Shape)). with_shapes (step_of_pose g.flip p) at n pl q o) (moves_again g p q full.0 full.1) ∙ ap (λ (o : Option Quota). put_placed at pl (part_placed (step_of_pose g.flip p) n q full.0) o) quota ∙ ap failed (sym full.3)
 
 -- ---- all parts
 

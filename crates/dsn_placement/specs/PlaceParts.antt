@@ -3,7 +3,8 @@ use Rattle.std.specs.Prelude.{◌≡◌, ℕ, ◌+◌, ◌⊎◌, List, [], ◌�
 use Rattle.std.specs.List.{sum_by}
 use Rattle.area_geometry.specs.declared.shapes.Shape.{Shape}
 use Rattle.board_items.specs.Shapes.{shapes_of}
-use Rattle.dsn_turns.specs.Moves.{OneByOne, AreMoved}
+use Rattle.dsn_turns.specs.Moves.{OneByOne, IsCarried, AreMoved}
+use Rattle.dsn_turns.specs.Wides.{point_of}
 use Rattle.dsn_lists.specs.declared.faults.DesignFault.{DesignFault}
 use Rattle.dsn_lists.specs.declared.faults.DesignKind.TheVariants as kind
 use Rattle.dsn_lists.specs.Lists.{told}
@@ -23,11 +24,12 @@ abbrev pub PartMoves : Ground → Pose → ImagePart → List Shape → Type 0
 PartMoves g p (parts.Pin stack id eighths at) ss = AreMoved (step_of_pin eighths at ∷ step_of_pose g.flip p ∷ []) (over_on p.side g.layers) (shapes_of (slice_get g.stacks stack)) ss
 PartMoves g p (parts.Keep k shapes) ss = AreMoved (step_of_pose g.flip p ∷ []) (over_on p.side g.layers) shapes ss
 
--- a pin of the component of this number becomes a pad of its id, and a keepout one of its kind
+-- A pin of the component of this number becomes a pad of its id, and lies where the component's turn and move carry it; a
+-- keepout becomes one of its kind.
 abbrev pub IsPlaced : Ground → Pose → ℕ → ImagePart → PlacedPart → Type 0
-IsPlaced g p n (parts.Pin stack id eighths at) (placed.Pad component pin ss) = (component ≡ n) × (pin ≡ id) × PartMoves g p (parts.Pin stack id eighths at) ss
+IsPlaced g p n (parts.Pin stack id eighths at) (placed.Pad component pin place ss) = (component ≡ n) × (pin ≡ id) × IsCarried (step_of_pose g.flip p) at (point_of place) × PartMoves g p (parts.Pin stack id eighths at) ss
 IsPlaced g p n (parts.Pin stack id eighths at) (placed.Keep k ss) = ⊥
-IsPlaced g p n (parts.Keep k shapes) (placed.Pad component pin ss) = ⊥
+IsPlaced g p n (parts.Keep k shapes) (placed.Pad component pin place ss) = ⊥
 IsPlaced g p n (parts.Keep k shapes) (placed.Keep kind ss) = (kind ≡ k) × PartMoves g p (parts.Keep k shapes) ss
 
 -- the component of this number has these pads and keepouts, one for each part of its image; it has none where it is nowhere
@@ -39,7 +41,7 @@ ArePlaced g (Some p) n qs ps = OneByOne (IsPlaced g p n) qs ps
 
 -- the shapes of a pad or keepout
 abbrev pub shapes_of_placed : PlacedPart → List Shape
-shapes_of_placed (placed.Pad component pin ss) = ss
+shapes_of_placed (placed.Pad component pin place ss) = ss
 shapes_of_placed (placed.Keep kind ss) = ss
 
 -- how many points the pads and keepouts have

@@ -11,7 +11,8 @@ use Rattle.board_items.specs.Shapes.{shapes_of}
 use Rattle.dsn_turns.specs.declared.turns.Flip.{Flip}
 use Rattle.dsn_turns.specs.declared.turns.Flip.TheVariants.{Plain}
 use Rattle.dsn_turns.specs.declared.moves.Motion.{Motion}
-use Rattle.dsn_turns.specs.Turning.{shapes_moved}
+use Rattle.dsn_turns.specs.Turning.{carried, shapes_moved}
+use Rattle.dsn_turns.specs.Wides.{wide_of}
 use Rattle.dsn_lists.specs.declared.faults.DesignKind.TheVariants as kind
 use Rattle.dsn_lists.specs.declared.marks.Mark.{Mark}
 use Rattle.dsn_lists.specs.Results.{Read, ◌>>=◌, wrong}
@@ -104,23 +105,24 @@ unfoldable pub shapes_placed : Ground → Pose → ImagePart → Option (List Sh
 shapes_placed g p (parts.Pin stack id eighths at) = shapes_moved (step_of_pin eighths at ∷ step_of_pose g.flip p ∷ []) (over_on p.side g.layers) (shapes_of (slice_get g.stacks stack))
 shapes_placed g p (parts.Keep k ss) = shapes_moved (step_of_pose g.flip p ∷ []) (over_on p.side g.layers) ss
 
--- a part of the image of the component of this number, with its shapes at their place
-abbrev pub part_placed : ℕ → ImagePart → List Shape → PlacedPart
-part_placed component (parts.Pin stack id eighths at) ss = placed.Pad component id ss
-part_placed component (parts.Keep k shapes) ss = placed.Keep k ss
+-- a part of the image of the component of this number, with its shapes at their place; a pin lies where this step of the
+-- component carries it
+abbrev pub part_placed : Motion → ℕ → ImagePart → List Shape → PlacedPart
+part_placed step component (parts.Pin stack id eighths at) ss = placed.Pad component id (wide_of (carried step at)) ss
+part_placed step component (parts.Keep k shapes) ss = placed.Keep k ss
 
 -- the placement with one more pad or keepout, where there is room for it
 abbrev pub put_placed : ℕ → Placement → PlacedPart → Option Quota → Read Placement
 put_placed at pl x None = wrong kind.Large at
 put_placed at pl x (Some quota) = Ok (record pl { parts = pl.parts ++ x ∷ []; quota = quota })
 
-abbrev pub with_shapes : ℕ → ℕ → Placement → ImagePart → Option (List Shape) → Read Placement
-with_shapes at component pl q None = wrong kind.Range at
-with_shapes at component pl q (Some ss) = put_placed at pl (part_placed component q ss) (quota_behind pl.quota ss)
+abbrev pub with_shapes : Motion → ℕ → ℕ → Placement → ImagePart → Option (List Shape) → Read Placement
+with_shapes step at component pl q None = wrong kind.Range at
+with_shapes step at component pl q (Some ss) = put_placed at pl (part_placed step component q ss) (quota_behind pl.quota ss)
 
 -- the placement with one more part of a component, told at this byte where it can't be
 unfoldable pub with_part : Ground → Pose → ℕ → ℕ → Placement → ImagePart → Read Placement
-with_part g p at component pl q = with_shapes at component pl q (shapes_placed g p q)
+with_part g p at component pl q = with_shapes (step_of_pose g.flip p) at component pl q (shapes_placed g p q)
 
 -- the placement with the parts of a component
 unfoldable pub with_parts : Ground → Pose → ℕ → ℕ → Placement → List ImagePart → Read Placement

@@ -1,5 +1,6 @@
 //! The lists of the placement section.
 ghost use Rattle.std.specs.Prelude.{◌≡◌, ◌≤◌, length, false, slice_get, OnOk};
+ghost use Rattle.row_lists.specs.Limits.{layer_limit};
 ghost use Rattle.sexp_text.specs.Shows.{forest};
 ghost use Rattle.dsn_lists.specs.Results.{Tells, Gives, each};
 ghost use Rattle.dsn_lists.specs.Names.{is_among, place_of};
@@ -283,7 +284,7 @@ pub fn placement_at(
     library: &Library,
     place: Place<'_>,
 ) -> Result<Placement, ReadWhy>
-    requires { length structure.now.layers ≤ 32 }
+    requires { length structure.now.layers ≤ layer_limit }
     ensures { Gives (λ x. x) result (placement_at unit structure.now library.now (spotted place.entry)) }
 {
     let unit = unit_for(unit, place.args);

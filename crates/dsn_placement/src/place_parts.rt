@@ -11,7 +11,7 @@ use board_items::Padstack;
 use dsn_library::ImagePart;
 use dsn_lists::{DesignKind, ReadWhy, refused};
 use dsn_shapes::{Quota, quota_behind};
-use dsn_turns::{Flip, Motion, moved_shapes};
+use dsn_turns::{Flip, Motion, carried, moved_shapes};
 use seg_geometry::Pt;
 use std::alloc::{AllocError, Global};
 
@@ -78,13 +78,14 @@ fn shapes_placed(
     }
 }
 
-fn part_placed(component: usize, part: &ImagePart, shapes: Shapes) -> PlacedPart
-    ensures { result ≡ part_placed component part.now shapes }
+fn part_placed(step: Motion, component: usize, part: &ImagePart, shapes: Shapes) -> PlacedPart
+    ensures { result ≡ part_placed step component part.now shapes }
 {
     match part {
-        ImagePart::Pin { id, .. } => PlacedPart::Pad {
+        ImagePart::Pin { id, at, .. } => PlacedPart::Pad {
             component,
             pin: *id,
+            at: carried(step, *at),
             shapes,
         },
         ImagePart::Keep { kind, .. } => PlacedPart::Keep {
@@ -112,19 +113,25 @@ fn put_placed(
 }
 
 fn put_shapes(
+    step: Motion,
     at: u32,
     component: usize,
     placement: &mut Placement,
     part: &ImagePart,
     shapes: Option<Shapes>,
 ) -> Result<(), ReadWhy>
-    ensures { Gives (λ _. placement.new) result (with_shapes at component placement.old part.now shapes) }
+    ensures { Gives (λ _. placement.new) result (with_shapes step at component placement.old part.now shapes) }
 {
     let Some(shapes) = shapes else {
         return Err(refused(DesignKind::Range, at));
     };
     let quota = quota_behind(placement.quota, shapes.as_slice());
-    put_placed(at, placement, part_placed(component, part, shapes), quota)
+    put_placed(
+        at,
+        placement,
+        part_placed(step, component, part, shapes),
+        quota,
+    )
 }
 
 #[tactic(auto, unfolding(crate::specs::Placements::with_part))]
@@ -140,7 +147,8 @@ fn put_part(
     ensures { Gives (λ _. placement.new) result (with_part (ground_of setting.entry) pose at component placement.old part.now) }
 {
     let shapes = shapes_placed(alloc, setting, pose, part)?;
-    put_shapes(at, component, placement, part, shapes)
+    let step = pose_step(setting.flip, pose);
+    put_shapes(step, at, component, placement, part, shapes)
 }
 
 #[tactic(auto, unfolding(crate::specs::Placements::with_parts))]

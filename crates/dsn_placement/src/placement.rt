@@ -16,6 +16,7 @@ use dsn_library::Library;
 use dsn_lists::{NameSet, ReadWhy, Section, section_of, title_of};
 use dsn_shapes::Quota;
 use dsn_structure::Structure;
+use dsn_turns::Wide;
 use row_lists::Row;
 use sexp_text::Tree;
 use std::alloc::Global;
@@ -23,10 +24,12 @@ use std::alloc::Global;
 /// A pad or a keepout of a placed component, at its place on the board, in nm.
 #[derive(Debug, Drop)]
 pub enum PlacedPart {
-    /// A pad of the pin of this number among those of the component's image.
+    /// A pad of the pin of this number among those of the component's image. The pin lies at `at`, which may be out of
+    /// range where its shapes are not.
     Pad {
         component: usize,
         pin: usize,
+        at: Wide,
         shapes: Shapes,
     },
     Keep {

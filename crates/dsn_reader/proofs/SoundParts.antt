@@ -190,8 +190,8 @@ keeps_fit p (items.Pad net ss ∷ is) h = absurd h.0
 placed_fit : (p : Parts) (pins : List ((ℕ × ℕ) × ℕ)) (xs : List PlacedPart) → AllByRecursion (λ (q : (ℕ × ℕ) × ℕ). q.1 < length p.nets) pins → AllByRecursion (IsFitPlaced (length p.layers)) xs → points_of_parts xs ≤ 4000000
     → AllByRecursion (IsFitItem p) (map (item_of pins) xs)
 placed_fit p pins [] below h low = tt
-placed_fit p pins (placed.Pad c q ss ∷ xs) below h low =
-    let sum = sum_by-cons (λ (x : PlacedPart). points_of_shapes (shapes_of_placed x)) (placed.Pad c q ss) xs in
+placed_fit p pins (placed.Pad c q place ss ∷ xs) below h low =
+    let sum = sum_by-cons (λ (x : PlacedPart). points_of_shapes (shapes_of_placed x)) (placed.Pad c q place ss) xs in
     let few = shapes_few (length p.layers) ss h.0 in
     (pad_fits p (net_at pins (c, q)) ss (λ n e. net_below (length p.nets) pins (c, q) n below e) h.0 (omega (arith, sum, few, low)), placed_fit p pins xs below h.1 (omega (arith, sum, low)))
 placed_fit p pins (placed.Keep k ss ∷ xs) below h low =

@@ -114,7 +114,7 @@ classes_of n = classed n.nets 1 (replicate (length n.nets) 0) n.classes
 
 -- the pad with the net of its pin, or the keepout
 abbrev pub item_of : List ((ℕ × ℕ) × ℕ) → PlacedPart → Item
-item_of pins (placed.Pad component pin ss) = items.Pad (net_at pins (component, pin)) ss
+item_of pins (placed.Pad component pin place ss) = items.Pad (net_at pins (component, pin)) ss
 item_of pins (placed.Keep k ss) = items.Keep k ss
 
 -- the pads and keepouts of components, behind others

@@ -17,6 +17,7 @@ fn item_of(pins: &PinNets, placed: PlacedPart) -> Item
             component,
             pin,
             shapes,
+            ..
         } => Item::Pad {
             net: pins.get(component, pin),
             shapes,

@@ -1,6 +1,7 @@
 -- What lists at the place of a shape draw.
 -- Models: the shape descriptors of the SPECCTRA reference. Left out: arcs, polyline paths and windows, which are refused.
 use Rattle.std.specs.Prelude.{ℕ, zero, suc, nat_lt, min, List, [], ◌∷◌, ◌++◌, codes, length, Option, Some, None, Ok, if◌then◌else◌}
+use Rattle.row_lists.specs.Limits.{layer_limit}
 use Rattle.sexp_text.specs.Forest.{Forest, End, Word, Branch}
 use Rattle.sexp_text.specs.declared.units.Unit.{Unit as LengthUnit}
 use Rattle.area_geometry.specs.declared.shapes.Core.{Core}
@@ -26,8 +27,8 @@ on_each (suc n) core width = on_each n core width ++ shape_on n core width ∷ [
 
 -- the shape on the layer that is named, or on each of so many; of layers beyond the 32nd on none
 abbrev pub on_layers : ℕ → Option ℕ → Core → ℕ → List Shape
-on_layers count (Some n) core width = if nat_lt n 32 then shape_on n core width ∷ [] else []
-on_layers count None core width = on_each (min count 32) core width
+on_layers count (Some n) core width = if nat_lt n layer_limit then shape_on n core width ∷ [] else []
+on_layers count None core width = on_each (min count layer_limit) core width
 
 -- what stands at the place of a shape
 unfoldable pub shape_word : List ℕ → ShapeWord

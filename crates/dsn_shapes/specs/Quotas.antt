@@ -1,12 +1,13 @@
 -- How many items and points may still come.
 use Rattle.std.specs.Prelude.{ℕ, ◌-◌, nat_lt, ◌==◌, List, [], ◌∷◌, length, Option, Some, None, if◌then◌else◌}
+use Rattle.row_lists.specs.Limits.{item_limit, point_limit}
 use Rattle.area_geometry.specs.declared.shapes.Shape.{Shape}
 use Rattle.area_geometry.specs.Copper.{core_points}
 use Rattle.dsn_shapes.specs.declared.quotas.Quota.{Quota}
 
 -- what a design may have in all
 abbrev pub whole_quota : Quota
-whole_quota = record { items = 200000; points = 4000000 }
+whole_quota = record { items = item_limit; points = point_limit }
 
 -- how many points may still come behind so many; none where there are too many
 abbrev pub less : ℕ → ℕ → Option ℕ

@@ -1,5 +1,6 @@
 //! What lists at the place of a shape draw.
 ghost use Rattle.std.specs.Prelude.{◌≡◌, ◌++◌, List, [], length, min, OnOk, IfOk, IfErr, Ok, Err};
+ghost use Rattle.row_lists.specs.Limits.{layer_limit};
 ghost use Rattle.sexp_text.specs.Shows.{forest};
 ghost use Rattle.dsn_lists.specs.Results.{Gives, each};
 ghost use Rattle.area_geometry.specs.declared.shapes.Shape.{Shape};
@@ -34,7 +35,7 @@ pub enum ShapeWord {
 // Puts the shape behind the others, on each of so many layers, but of the first 32 alone.
 #[tactic(auto, unfolding(crate::specs::Drawn::on_each))]
 fn put_on_each(shapes: &mut Shapes, count: usize, core: &Core, width: u32) -> Result<(), AllocError>
-    ensures { OnOk result (shapes.new ≡ shapes.old ++ on_each (min count 32) core.now width) }
+    ensures { OnOk result (shapes.new ≡ shapes.old ++ on_each (min count layer_limit) core.now width) }
 {
     for layer in 0..count.min(LAYER_LIMIT) {
         shapes.push(Shape {

@@ -1,6 +1,7 @@
 -- What a layer of a structure is, and what is wrong with a list that is none.
 -- Models: the layer descriptor of the SPECCTRA reference, whatever the type.
 use Rattle.std.specs.Prelude.{◌≡◌, ℕ, ◌≤◌, ◌<◌, ◌⊎◌, true, false, List, [], ◌∷◌, codes, length}
+use Rattle.row_lists.specs.Limits.{layer_limit}
 use Rattle.sexp_text.specs.Forest.{Forest, End, Word, Branch}
 use Rattle.dsn_lists.specs.declared.faults.DesignFault.{DesignFault}
 use Rattle.dsn_lists.specs.declared.faults.DesignKind.TheVariants as kind
@@ -33,7 +34,9 @@ IsLayer f = HasWord (λ text rest. HasType rest) f
 
 -- the fault of a layer behind layers of these names: its name is one of them, there are 32 already, or its type is at fault
 abbrev pub LayerFault : List (List ℕ) → ℕ → Forest → DesignFault → Type 0
-LayerFault names at f e = NoWordOr (λ a text rest e. OldNameFault 32 names text a e ⊎ (IsNewName 32 names text × TypeFault at rest e)) at f e
+LayerFault names at f e =
+    NoWordOr (λ a text rest e. OldNameFault layer_limit names text a e
+    ⊎ (IsNewName layer_limit names text × TypeFault at rest e)) at f e
 
 -- the name of a layer
 abbrev pub layer_name : Forest → List (List ℕ)

@@ -1,6 +1,7 @@
 -- What a structure section stands for, said of its whole lists, and what is wrong with one that stands for nothing.
 -- Models: the structure, boundary, keepout and via descriptors of the SPECCTRA reference.
 use Rattle.std.specs.Prelude.{◌≡◌, ℕ, ◌+◌, ◌≤◌, ◌<◌, ◌⊎◌, List, [], codes, map, length, Some, None}
+use Rattle.row_lists.specs.Limits.{layer_limit, item_limit, point_limit}
 use Rattle.sexp_text.specs.Forest.{Forest}
 use Rattle.sexp_text.specs.declared.units.Unit.{Unit as LengthUnit}
 use Rattle.seg_geometry.specs.declared.points.Pt.{Pt}
@@ -59,14 +60,14 @@ pub record IsSection (u : LengthUnit) (names : List (List ℕ)) (f : Forest) (s 
   pub formed : Every (IsStructureList u names) f
   pub layers : s.layers ≡ collect layers_in f
   pub fresh : AreFresh s.layers
-  pub few : length s.layers ≤ 32
+  pub few : length s.layers ≤ layer_limit
   pub vias : s.vias ≡ collect vias_in f
   pub rule : Says u (collect rule_widths f) (collect rule_claims f) s.rule
   pub flip : s.flip ≡ last_of None (map Some (collect flips_in f))
   pub outline : AreOutlines u (collect boundaries_in f) s.outline
   pub keeps : AreKeeps u names (collect keeps_in f) s.keeps
-  pub items : length s.keeps + s.quota.items ≡ 200000
-  pub points : points_of_keeps s.keeps + s.quota.points ≡ 4000000
+  pub items : length s.keeps + s.quota.items ≡ item_limit
+  pub points : points_of_keeps s.keeps + s.quota.points ≡ point_limit
 
 -- the names of the layers of the whole section, also of those that stand behind a keepout
 abbrev pub section_layers : Forest → List (List ℕ)

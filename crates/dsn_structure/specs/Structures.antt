@@ -2,6 +2,7 @@
 -- Models: the structure, layer, boundary, via, keepout and place_control descriptors of the SPECCTRA reference. Left out:
 -- planes, and the type of a layer.
 use Rattle.std.specs.Prelude.{ℕ, nat_lt, ◌==◌, Bool, true, false, is_some, List, [], ◌∷◌, ◌++◌, codes, length, Option, Some, None, Ok, if◌then◌else◌}
+use Rattle.row_lists.specs.Limits.{layer_limit}
 use Rattle.sexp_text.specs.Forest.{Forest}
 use Rattle.sexp_text.specs.declared.units.Unit.{Unit as LengthUnit}
 use Rattle.area_geometry.specs.declared.shapes.Shape.{Shape}
@@ -68,7 +69,7 @@ type_item typed at inside = if same (head_of inside).text (codes "type") then (o
 unfoldable pub layer_of : List (List ℕ) → ℕ → Forest → Read (List ℕ)
 layer_of names at f = do
   w ← word_of at f
-  _ ← new_name 32 names w.0
+  _ ← new_name layer_limit names w.0
   typed ← each type_item false w.1
   if typed then Ok w.0.name else wrong kind.Form at
 
