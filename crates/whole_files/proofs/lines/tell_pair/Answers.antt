@@ -1,0 +1,15 @@
+use Rattle.std.proofs.Common.{◌++◌, subst, ◌∙◌, List, ℕ}
+use Rattle.std.specs.Prelude.{decimal, codes}
+use Rattle.whole_files.specs.Stops.{Tells}
+use Rattle.whole_files.proofs.Tells.{tells_first, tells_rest}
+use Rattle.whole_files.proofs.lines.tell_pair.Goals as goal
+
+pub returns-in-Ok : goal.returns-in-Ok
+returns-in-Ok g c =
+    subst (λ (w : List ℕ). Tells (w ++ (codes " " ++ (decimal c.args.b ++ codes "\n"))) (g.O.Sink.told c.args.out.now) (g.O.Sink.told c.tell_number.new.out)) (c.as_bytes.ensures.value ∙ c.format.ensures.text)
+    (tells_rest c.as_bytes.result.now (codes " " ++ (decimal c.args.b ++ codes "\n")) (g.O.Sink.told c.args.out.now) (g.O.Sink.told c.put_out.new.out) (g.O.Sink.told c.tell_number.new.out) c.in-Ok.ensures.ok c.tell_number.ensures)
+
+pub returns-in-Err : goal.returns-in-Err
+returns-in-Err g c =
+    subst (λ (w : List ℕ). Tells (w ++ (codes " " ++ (decimal c.args.b ++ codes "\n"))) (g.O.Sink.told c.args.out.now) (g.O.Sink.told c.put_out.new.out)) (c.as_bytes.ensures.value ∙ c.format.ensures.text)
+    (tells_first c.in-Err.field-0 c.as_bytes.result.now (codes " " ++ (decimal c.args.b ++ codes "\n")) (g.O.Sink.told c.args.out.now) (g.O.Sink.told c.put_out.new.out) c.in-Err.ensures.err)
