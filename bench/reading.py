@@ -1,6 +1,6 @@
 #!/usr/bin/env python3
 """Measures reading: the program on designs whose names fill 8 to 64 MiB, on designs of many padstacks, on a board of
-parts and wires and on designs at the limits, and the tree of texts of 4 to 64 MiB against `wc -w` on the same file. Give it
+parts and wires and on designs at the limits, the numbers of designs of many nets and wires, and the tree of texts of 4 to 64 MiB against `wc -w` on the same file. Give it
 no words; build with `rt run` first.
 
 It prints a row a size: processor seconds, the most memory in MB, and what it is compared with.
@@ -13,6 +13,7 @@ import tempfile
 
 TOP = os.path.dirname(os.path.dirname(os.path.abspath(__file__)))
 SERVER = os.path.join(TOP, "crates/layout_server/out/layout_server")
+NUMBERS = os.path.join(TOP, "crates/board_numbers/out/board_numbers")
 COUNT = os.path.join(TOP, "crates/tree_count/out/tree_count")
 MIB = 1 << 20
 
@@ -61,9 +62,12 @@ def write_text(path, size, piece):
         file.write(b")")
 
 
-def write_wiring(path, nets):
-    """A design of so many nets with two wires each, whose last list is a wire without a net, so that all is read and no
-    pair is tested."""
+WITHOUT_NET = b" (wire (path L1 200 0 0 1 1))"
+
+
+def write_wiring(path, nets, end):
+    """A design of so many nets with two wires each, of which the last one is this. Where that is a wire without a net, all
+    is read and no pair is tested."""
     with open(path, "wb") as file:
         file.write(b"(pcb s.dsn (unit um) (structure (layer L1 (type signal)) (rule (width 100) (clearance 200))) (network")
         for i in range(nets):
@@ -71,18 +75,27 @@ def write_wiring(path, nets):
         file.write(b") (wiring")
         for i in range(2 * nets - 1):
             file.write(b" (wire (path L1 200 %d %d %d %d) (net N%d))" % (i % 1000, i // 1000, i % 1000 + 1, i // 1000, i * 7 % nets))
-        file.write(b" (wire (path L1 200 0 0 1 1))))")
+        file.write(end + b"))")
 
 
 def wirings(folder):
     print("nets, wires: MiB, seconds, MB, wc -w seconds, ratio, status")
     for nets in (25000, 50000, 100000):
         path = os.path.join(folder, "w.dsn")
-        write_wiring(path, nets)
+        write_wiring(path, nets, WITHOUT_NET)
         seconds, most, status, output = timed([SERVER, "check", path])
         words, _, _, _ = timed(["wc", "-w", path], dict(os.environ, LC_ALL="C"))
         size = os.path.getsize(path) / MIB
         print(f"{nets} {2 * nets} {size:.1f} {seconds:.2f} {most:.0f} {words:.3f} {seconds / words:.1f} {status} {output.decode().strip()}")
+
+
+def numbers(folder):
+    print("nets, wires: MiB, seconds for the numbers, MB, lines, status")
+    for nets in (25000, 50000, 100000):
+        path = os.path.join(folder, "n.dsn")
+        write_wiring(path, nets, b" (wire (path L1 200 0 0 1 1) (net N0))")
+        seconds, most, status, output = timed([NUMBERS, "numbers", path])
+        print(f"{nets} {2 * nets} {os.path.getsize(path) / MIB:.1f} {seconds:.2f} {most:.0f} {output.count(bytes([10]))} {status}")
 
 
 def write_board(path, parts, wires, end):
@@ -211,7 +224,7 @@ def trees(folder):
 
 
 def main():
-    for program in (SERVER, COUNT):
+    for program in (SERVER, NUMBERS, COUNT):
         if not os.path.exists(program):
             print(f"{os.path.relpath(program, TOP)} isn't built: run `rt run` in its crate")
             return 1
@@ -219,6 +232,7 @@ def main():
         designs(folder)
         libraries(folder)
         wirings(folder)
+        numbers(folder)
         boards(folder)
         limits(folder)
         trees(folder)

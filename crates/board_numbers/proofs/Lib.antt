@@ -1,0 +1,5 @@
+pub mod Ended
+pub mod Forms
+pub mod Loads
+pub mod Numbered
+pub mod Unique
