@@ -1,0 +1,6 @@
+pub mod Pairs
+pub mod Placed
+pub mod Found
+pub mod Put
+pub mod Taken
+pub mod SoFar
