@@ -1,0 +1,6 @@
+pub mod Marks
+pub mod RisingClients
+pub mod Segments
+pub mod Walked
+pub mod Leasts
+pub mod Kept

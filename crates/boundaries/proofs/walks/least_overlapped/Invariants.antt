@@ -1,0 +1,12 @@
+use Rattle.std.proofs.Common.{◌≤◌, ◌+◌, length, take, drop}
+use Rattle.boundaries.specs.Costs.{fences_most}
+use Rattle.boundaries.proofs.Walked.{NoneIs}
+use Rattle.boundaries.proofs.Leasts.{IsBarred}
+use Rattle.boundaries.proofs.walks.least_overlapped.Given as goal
+
+-- no boundary so far is overlapped and bars the client, and those that are left have their part of the steps
+abbrev pub invariant-loop-fence : goal.invariant-loop-fence
+invariant-loop-fence g l = record {
+  none : NoneIs (IsBarred l.layers l.area l.client) (take l.fence-index l.live);
+  cost : l.steps + fences_most (length l.area) 0 (drop l.fence-index l.live) ≤ l.initial.steps + fences_most (length l.area) 0 l.live;
+}

@@ -1,0 +1,4 @@
+pub mod Boundaries
+pub mod Touching
+pub mod Costs
+pub mod Marks
