@@ -14,7 +14,9 @@ use Rattle.board_rules.specs.declared.design.Parts.{Parts}
 use Rattle.board_rules.specs.Designs.{IsFitItem}
 use Rattle.board_rules.specs.FitAdds.{IsFitAdd}
 use Rattle.number_slots.specs.Slots.{is_among, without, numbered, there}
-use Rattle.board_core.specs.Boards.{Board, IsSameBoard, IsBoardOf, made_of, made_from, edited, after, folded, board_at, first_board, HasFitAct}
+use Rattle.reservations.specs.Held.{not_of}
+use Rattle.boundaries.specs.Boundaries.{Boundary, boundary_of, fence_made, entitled_at}
+use Rattle.board_core.specs.Boards.{Board, IsSameBoard, IsBoardOf, made_of, made_from, edited, reserved, released_by, after, folded, board_at, first_board, HasFitAct}
 use Rattle.board_core.specs.Made.{made_item}
 
 -- ---- slots and what stands in them
@@ -79,21 +81,38 @@ pub same_of : (p : Parts) (b c : Board) → IsSameBoard b c → IsBoardOf p c �
 same_of p b c same is = record { fit = subst (AreFit p) (sym same.live) is.fit }
 
 pub same_then : (a b c : Board) → IsSameBoard a b → IsSameBoard b c → IsSameBoard a c
-same_then a b c s t = record { live = s.live ∙ t.live; next_id = s.next_id ∙ t.next_id; count = s.count ∙ t.count }
+same_then a b c s t = record {
+  live = s.live ∙ t.live;
+  next_id = s.next_id ∙ t.next_id;
+  held = s.held ∙ t.held;
+  fences = s.fences ∙ t.fences;
+  last = s.last ∙ t.last;
+  count = s.count ∙ t.count;
+}
 
 -- the same act leads from the same board to the same
 pub same_after : (b c : Board) (client : ℕ) (act : Act) → IsSameBoard b c → IsSameBoard (after b client act) (after c client act)
-same_after b c client acts.Leave same = record { live = same.live; next_id = same.next_id; count = ap (λ (n : ℕ). n + 1) same.count }
+same_after b c client acts.Leave same = record { live = same.live; next_id = same.next_id; held = ap (not_of client) same.held; fences = same.fences; last = same.last; count = ap (λ (n : ℕ). n + 1) same.count }
 same_after b c client (acts.Ask (requests.Edit deletes adds)) same = record {
   live = (λ i. without deletes (same.live i) ++ made_from (same.next_id i) adds);
   next_id = ap (λ (n : ℕ). n + length adds) same.next_id;
+  held = ap (λ (xs : List (ℕ × ℕ)). without deletes xs) same.held;
+  fences = same.fences;
+  last = same.last;
   count = ap (λ (n : ℕ). n + 1) same.count;
 }
-same_after b c client (acts.Ask (requests.Reserve id)) same = record { live = same.live; next_id = same.next_id; count = ap (λ (n : ℕ). n + 1) same.count }
-same_after b c client (acts.Ask (requests.Release id)) same = record { live = same.live; next_id = same.next_id; count = ap (λ (n : ℕ). n + 1) same.count }
-same_after b c client (acts.Ask (requests.Fence layers area clients)) same = record { live = same.live; next_id = same.next_id; count = ap (λ (n : ℕ). n + 1) same.count }
-same_after b c client (acts.Ask (requests.Unfence fence)) same = record { live = same.live; next_id = same.next_id; count = ap (λ (n : ℕ). n + 1) same.count }
-same_after b c client (acts.Ask (requests.Entitle fence other)) same = record { live = same.live; next_id = same.next_id; count = ap (λ (n : ℕ). n + 1) same.count }
+same_after b c client (acts.Ask (requests.Reserve id)) same = record { live = same.live; next_id = same.next_id; held = (λ i. reserved (same.live i) (same.held i) id.0 client); fences = same.fences; last = same.last; count = ap (λ (n : ℕ). n + 1) same.count }
+same_after b c client (acts.Ask (requests.Release id)) same = record { live = same.live; next_id = same.next_id; held = ap (λ (xs : List (ℕ × ℕ)). released_by id.0 client xs) same.held; fences = same.fences; last = same.last; count = ap (λ (n : ℕ). n + 1) same.count }
+same_after b c client (acts.Ask (requests.Fence layers area clients)) same = record {
+  live = same.live;
+  next_id = same.next_id;
+  held = same.held;
+  fences = (λ i. same.fences i ++ fence_made (same.last i + 1) (boundary_of client layers area clients));
+  last = ap (λ (n : ℕ). n + 1) same.last;
+  count = ap (λ (n : ℕ). n + 1) same.count;
+}
+same_after b c client (acts.Ask (requests.Unfence fence)) same = record { live = same.live; next_id = same.next_id; held = same.held; fences = ap (λ (xs : List (ℕ × Boundary)). without (fence ∷ []) xs) same.fences; last = same.last; count = ap (λ (n : ℕ). n + 1) same.count }
+same_after b c client (acts.Ask (requests.Entitle fence other)) same = record { live = same.live; next_id = same.next_id; held = same.held; fences = ap (λ (xs : List (ℕ × Boundary)). entitled_at fence other xs) same.fences; last = same.last; count = ap (λ (n : ℕ). n + 1) same.count }
 
 -- ---- one entry more
 
@@ -139,22 +158,28 @@ pub on_ok : {A E : Type 0} (r : Result A E) (P Q : Type 0) → (P → Q) → OnO
 on_ok (Ok x) P Q f h = f h
 on_ok (Err x) P Q f h = tt
 
-pub edit_same : (old new made : List (Option Item)) (count : ℕ) (deletes : List ℕ) (adds : List Add) → made ≡ map made_item adds → there 1 new ≡ without deletes (there 1 old) ++ there (length old + 1) made → length new ≡ length old + length made
-    → IsSameBoard (record { live = there 1 new; next_id = length new + 1; count = count + 1 }) (edited (record { live = there 1 old; next_id = length old + 1; count = count }) deletes adds)
-edit_same old new made count deletes adds is left longer = record {
+pub edit_same : (old new made : List (Option Item)) (h k : List (ℕ × ℕ)) (f : List (ℕ × Boundary)) (last count : ℕ) (deletes : List ℕ) (adds : List Add) → made ≡ map made_item adds → there 1 new ≡ without deletes (there 1 old) ++ there (length old + 1) made → length new ≡ length old + length made → k ≡ without deletes h
+    → IsSameBoard (record { live = there 1 new; next_id = length new + 1; held = k; fences = f; last = last; count = count + 1 }) (edited (record { live = there 1 old; next_id = length old + 1; held = h; fences = f; last = last; count = count }) deletes adds)
+edit_same old new made h k f last count deletes adds is left longer free = record {
   live = left ∙ ap (λ (ys : List (Option Item)). without deletes (there 1 old) ++ there (length old + 1) ys) is ∙ ap (λ (ys : List (ℕ × Item)). without deletes (there 1 old) ++ ys) (there_made (length old + 1) adds);
   next_id = let many : length made ≡ length adds = ap length is ∙ as_many made_item adds in omega (arith, longer, many);
+  held = free;
+  fences = refl;
+  last = refl;
   count = refl;
 }
 
-pub new_same : (p : Parts) (none new made : List (Option Item)) → none ≡ [] → made ≡ map Some p.items → there 1 new ≡ without [] (there 1 none) ++ there (length none + 1) made → length new ≡ length none + length made
-    → IsSameBoard (record { live = there 1 new; next_id = length new + 1; count = 0 }) (first_board p)
-new_same p none new made empty is left longer =
+pub new_same : (p : Parts) (none new made : List (Option Item)) (h : List (ℕ × ℕ)) (f : List (ℕ × Boundary)) (last : ℕ) → none ≡ [] → made ≡ map Some p.items → there 1 new ≡ without [] (there 1 none) ++ there (length none + 1) made → length new ≡ length none + length made → h ≡ [] → f ≡ [] → last ≡ 0
+    → IsSameBoard (record { live = there 1 new; next_id = length new + 1; held = h; fences = f; last = last; count = 0 }) (first_board p)
+new_same p none new made h f last empty is left longer free unfenced start =
     let first : there 1 new ≡ there 1 made = left ∙ ap (λ (ys : List (Option Item)). without [] (there 1 ys) ++ there (length ys + 1) made) empty in
     let many : length made ≡ length p.items = ap length is ∙ as_many Some p.items in
     let zero_ : length none ≡ 0 = ap length empty in
     record {
       live = first ∙ ap (λ (ys : List (Option Item)). there 1 ys) is ∙ there_loaded 1 p.items;
       next_id = omega (arith, longer, many, zero_);
+      held = free;
+      fences = unfenced;
+      last = start;
       count = refl;
     }

@@ -1,6 +1,6 @@
 -- Which live item is the least that an item is too near to.
 use Rattle.std.proofs.Common.{◌≡◌, ℕ, ◌+◌, ◌<◌, ◌≤◌, List, [], ◌∷◌, ◌++◌, length, get_or, drop, refl, sym, ap, subst, ◌∙◌, arith, inl, inr, Bool, true, false}
-use Rattle.std.specs.Prelude.{◌⊎◌, ◌↔◌, IsTrue, not, Option, Some, None}
+use Rattle.std.specs.Prelude.{◌↔◌, IsTrue, not, Option, Some, None}
 use Rattle.std.specs.List.{AllByRecursion}
 use Rattle.std.proofs.lemmas.Bool.{not_from_false, not-true, false_from_ne_true}
 use Rattle.board_items.specs.declared.items.Item.{Item}
@@ -8,6 +8,7 @@ use Rattle.board_items.specs.declared.requests.Add.{Add}
 use Rattle.board_items.specs.declared.requests.Request.{Request}
 use Rattle.board_items.specs.declared.requests.Request.TheVariants as requests
 use Rattle.board_items.specs.declared.history.Why.{Why}
+use Rattle.board_items.specs.declared.history.Why.TheVariants as whys
 use Rattle.board_items.specs.Adds.{item_of_add}
 use Rattle.board_rules.specs.declared.design.Parts.{Parts}
 use Rattle.board_rules.proofs.Walked.{left_is}
@@ -20,7 +21,8 @@ use Rattle.number_slots.proofs.ByNumber.{by_lt, at_holds}
 use Rattle.board_core.specs.Edits.{IsNear, IsClashReason, clash, IsDeleteReason, IsDeletesReason}
 use Rattle.board_core.specs.Boards.{Board}
 use Rattle.board_core.specs.Reasons.{Least}
-use Rattle.board_core.specs.Costs.{tests_pairs, board_most, answer_most}
+use Rattle.board_core.specs.Barrings.{IsProtectedReason}
+use Rattle.board_core.specs.Costs.{tests_pairs, tests_fences, clashes_most, deletes_most, adds_touch_most, fences_of_edit, pairs_of_edit, board_most, answer_most}
 
 -- a live item that isn't deleted is near where it doesn't keep its need
 pub near_told : (p : Parts) (live : List (ℕ × Item)) (deletes : List ℕ) (item other : Item) (id : ℕ) (keeps : Bool) → IsAt live id other → ((x : Item) → IsAt live id x → x ≡ other) → is_among id deletes ≡ false → IsTrue keeps ↔ KeepsNeed p item other → IsTrue (not keeps) ↔ IsNear p live deletes item id
@@ -105,8 +107,50 @@ static_within p b (requests.Unfence fence) why = omega arith
 static_within p b (requests.Entitle fence client) why = omega arith
 
 -- an edit takes that and what the board's reason takes
-pub edit_within : (p : Parts) (b : Board) (r : Request) (deletes : List ℕ) (adds : List Add) (why : Option Why) → r ≡ requests.Edit deletes adds → static_most p r + board_most p b.live deletes adds why ≡ answer_most p b r why
-edit_within p b r deletes adds why is = subst (λ (x : Request). static_most p x + board_most p b.live deletes adds why ≡ answer_most p b x why) (sym is) refl
+pub edit_within : (p : Parts) (b : Board) (r : Request) (deletes : List ℕ) (adds : List Add) (why : Option Why) → r ≡ requests.Edit deletes adds → static_most p r + board_most p b deletes adds why ≡ answer_most p b r why
+edit_within p b r deletes adds why is = subst (λ (x : Request). static_most p x + board_most p b deletes adds why ≡ answer_most p b x why) (sym is) refl
+
+-- a boundary that bars is found without a test of pairs
+pub protected_within : (p : Parts) (b : Board) (client : ℕ) (deletes : List ℕ) (adds : List Add) (why : Why) → IsProtectedReason p b client deletes adds (Some why) → deletes_most p b deletes + adds_touch_most p b.fences adds ≤ board_most p b deletes adds (Some why)
+protected_within p b client deletes adds why h =
+    let t : tests_fences (Some why) ≡ true = ap (λ w. tests_fences (Some w)) h.3 in
+    let e : fences_of_edit p b deletes adds (Some why) ≡ deletes_most p b deletes + adds_touch_most p b.fences adds = rw t refl in
+    omega (arith, e)
+
+fences_too : (why : Option Why) → tests_pairs why ≡ true → tests_fences why ≡ true
+fences_too None t = refl
+fences_too (Some whys.Empty) t = absurd cc
+fences_too (Some (whys.Net add)) t = absurd cc
+fences_too (Some (whys.Layer add)) t = absurd cc
+fences_too (Some (whys.Narrow add)) t = absurd cc
+fences_too (Some (whys.Padstack add)) t = absurd cc
+fences_too (Some (whys.Range add)) t = absurd cc
+fences_too (Some (whys.Outside add)) t = absurd cc
+fences_too (Some (whys.Own a b)) t = absurd cc
+fences_too (Some (whys.Repeated id)) t = absurd cc
+fences_too (Some (whys.Missing id)) t = absurd cc
+fences_too (Some (whys.Fixed id)) t = absurd cc
+fences_too (Some (whys.Reserved id client)) t = absurd cc
+fences_too (Some (whys.Protected fence)) t = refl
+fences_too (Some (whys.Clash add id)) t = refl
+fences_too (Some (whys.Unheld id)) t = absurd cc
+fences_too (Some whys.Area) t = absurd cc
+fences_too (Some (whys.FenceLayer layer)) t = absurd cc
+fences_too (Some (whys.Client client)) t = absurd cc
+fences_too (Some (whys.Overlap fence)) t = absurd cc
+fences_too (Some (whys.Covers id)) t = absurd cc
+fences_too (Some (whys.NoFence fence)) t = absurd cc
+fences_too (Some (whys.NotOwner fence)) t = absurd cc
+
+-- a clash, or none, takes both tests
+pub clash_within : (p : Parts) (b : Board) (deletes : List ℕ) (adds : List Add) (why : Option Why) → IsClashReason p b.live deletes 1 adds why
+    → (deletes_most p b deletes + adds_touch_most p b.fences adds) + clashes_most p (without deletes b.live) adds ≤ board_most p b deletes adds why
+clash_within p b deletes adds why h =
+    let t = clash_tests p b.live deletes 1 adds why h in
+    let u = fences_too why t in
+    let e : fences_of_edit p b deletes adds why ≡ deletes_most p b deletes + adds_touch_most p b.fences adds = rw u refl in
+    let f : pairs_of_edit p b deletes adds why ≡ clashes_most p (without deletes b.live) adds = rw t refl in
+    omega (arith, e, f)
 
 -- one reason names the least number
 pub least_once : (S : ℕ → Type 0) (say : ℕ → Why) (v w : Option Why) → Least S say v → Least S say w → v ≡ w

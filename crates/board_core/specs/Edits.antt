@@ -6,17 +6,14 @@ use Rattle.board_items.specs.declared.requests.Add.{Add}
 use Rattle.board_items.specs.declared.requests.Request.TheVariants as requests
 use Rattle.board_items.specs.declared.history.Why.{Why}
 use Rattle.board_items.specs.declared.history.Why.TheVariants as whys
-use Rattle.board_items.specs.Adds.{item_of_add, is_fixed}
+use Rattle.board_items.specs.Adds.{item_of_add}
 use Rattle.board_rules.specs.declared.design.Parts.{Parts}
 use Rattle.board_rules.specs.Needs.{KeepsNeed}
 use Rattle.board_rules.specs.Reasons.{Nothing, First, Then, IsStaticReason}
 use Rattle.number_slots.specs.Slots.{is_among, IsAt, IsThere}
 use Rattle.board_core.specs.Boards.{Board}
-use Rattle.board_core.specs.Reasons.{Least}
-
--- a fixed item is live under the number
-abbrev pub IsFixedAt : List (ℕ × Item) → ℕ → Type 0
-IsFixedAt live id = (item : Item) × IsAt live id item × (is_fixed item ≡ true)
+use Rattle.board_core.specs.Reasons.{Least, IsFixedAt}
+use Rattle.board_core.specs.Barrings.{IsProtectedReason}
 
 -- the first reason against the delete of a number, where these numbers stand before it
 abbrev pub IsDeleteReason : List (ℕ × Item) → List ℕ → ℕ → Option Why → Type 0
@@ -29,6 +26,17 @@ IsDeleteReason live before id =
 abbrev pub IsDeletesReason : List (ℕ × Item) → List ℕ → List ℕ → Option Why → Type 0
 IsDeletesReason live before [] = Nothing
 IsDeletesReason live before (id ∷ rest) = Then (IsDeleteReason live before id) (IsDeletesReason live (before ++ id ∷ []) rest)
+
+-- the reason that names another client than this one who holds the item; none where nobody does, or the client itself
+abbrev pub IsOtherReason : List (ℕ × ℕ) → ℕ → ℕ → Option Why → Type 0
+IsOtherReason held client id None = (holder : ℕ) → IsAt held id holder → holder ≡ client
+IsOtherReason held client id (Some why) =
+    (holder : ℕ) × IsAt held id holder × (holder ≡ client → ⊥) × (why ≡ whys.Reserved (record { 0 = id }) holder)
+
+-- the first of the deletes that another client holds
+abbrev pub IsHeldReason : List (ℕ × ℕ) → ℕ → List ℕ → Option Why → Type 0
+IsHeldReason held client [] = Nothing
+IsHeldReason held client (id ∷ rest) = Then (IsOtherReason held client id) (IsHeldReason held client rest)
 
 -- the live item of this number isn't deleted, and is too near to an item
 pub record IsNear (p : Parts) (live : List (ℕ × Item)) (deletes : List ℕ) (item : Item) (id : ℕ) : Type 0 where
@@ -47,9 +55,13 @@ IsClashReason p live deletes a [] = Nothing
 IsClashReason p live deletes a (add ∷ rest) =
     Then (Least (IsNear p live deletes (item_of_add add)) (clash a)) (IsClashReason p live deletes (a + 1) rest)
 
--- the first reason of the board against an edit: of its deletes, then a clash with what isn't deleted
+-- the first reason of the board against an edit: of its deletes, of who holds them, of boundaries, then a clash with what
+-- isn't deleted
 abbrev pub IsBoardReason : Parts → Board → ℕ → List ℕ → List Add → Option Why → Type 0
-IsBoardReason p b client deletes adds = Then (IsDeletesReason b.live [] deletes) (IsClashReason p b.live deletes 1 adds)
+IsBoardReason p b client deletes adds =
+    Then (IsDeletesReason b.live [] deletes)
+    (Then (IsHeldReason b.held client deletes)
+    (Then (IsProtectedReason p b client deletes adds) (IsClashReason p b.live deletes 1 adds)))
 
 -- what an edit of a client is answered: the first reason by itself, and then that of the board
 abbrev pub IsEditReason : Parts → ℕ → Board → ℕ → List ℕ → List Add → Option Why → Type 0

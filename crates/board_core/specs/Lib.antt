@@ -2,7 +2,11 @@ pub mod Boards
 pub mod Made
 pub mod Clean
 pub mod Reasons
+pub mod Barrings
+pub mod Bars
+pub mod Reservings
 pub mod Edits
 pub mod Answers
 pub mod Costs
-pub mod Journals
+pub mod Histories
+pub mod Shields

@@ -2,11 +2,16 @@
 #![tactic(auto)]
 
 mod answer;
+mod barrings;
 mod board;
 mod clashes;
+mod covers;
 mod deletes;
+mod draws;
+mod holds;
 mod made;
 mod pairs;
+mod reservings;
 
 pub use answer::slow_answer;
 pub use board::Board;

@@ -1,4 +1,3 @@
-pub mod Names
 pub mod Routes
 pub mod Library
 pub mod Session

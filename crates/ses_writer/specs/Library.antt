@@ -9,7 +9,7 @@ use Rattle.area_geometry.specs.declared.shapes.Shape.{Shape}
 use Rattle.board_items.specs.declared.items.Padstack.{Padstack}
 use Rattle.board_items.specs.declared.items.Item.{Item}
 use Rattle.board_rules.specs.declared.design.Parts.{Parts}
-use Rattle.ses_writer.specs.Names.{name_text}
+use Rattle.quoted_names.specs.Names.{name_text}
 use Rattle.ses_writer.specs.Routes.{layer_name, point_text, uses}
 
 -- a chain is a circle where it has one point

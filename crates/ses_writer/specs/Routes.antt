@@ -7,7 +7,7 @@ use Rattle.board_items.specs.declared.items.Item.{Item}
 use Rattle.board_items.specs.declared.items.Item.TheVariants as items
 use Rattle.board_items.specs.declared.items.Padstack.{Padstack}
 use Rattle.board_rules.specs.declared.design.Parts.{Parts}
-use Rattle.ses_writer.specs.Names.{name_text}
+use Rattle.quoted_names.specs.Names.{name_text}
 
 -- a name, or nothing where there is none
 abbrev pub or_empty : Option (List ℕ) → List ℕ

@@ -4,7 +4,7 @@ use Rattle.std.specs.List.{flat_map, filter, list_any}
 use Rattle.board_rules.specs.declared.design.NetRow.{NetRow}
 use Rattle.board_items.specs.declared.items.Item.{Item}
 use Rattle.board_rules.specs.declared.design.Parts.{Parts}
-use Rattle.ses_writer.specs.Names.{name_text}
+use Rattle.quoted_names.specs.Names.{name_text}
 use Rattle.ses_writer.specs.Routes.{item_text, is_wire_of, is_via_of}
 use Rattle.ses_writer.specs.Library.{stacks_text}
 

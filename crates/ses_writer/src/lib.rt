@@ -4,7 +4,6 @@
 mod by_net;
 mod fixed;
 mod library;
-mod names;
 mod nets;
 mod pieces;
 mod points;

@@ -8,13 +8,13 @@ ghost use Rattle.ses_writer.specs.Library.{shape_word, shape_text, stack_text};
 ghost use Rattle.ses_writer.specs.ByNet.{marked_text};
 
 use crate::fixed::{put_shape_close, put_shape_open, put_stack_close, put_stack_open};
-use crate::names::put_name;
 use crate::points::put_points;
 use area_geometry::{Core, Shape};
 use board_items::Padstack;
 use board_rules::Design;
 use itoa::Buffer;
 use layout_io::Bytes;
+use quoted_names::put_name;
 use std::alloc::AllocError;
 
 fn put_word(out: &mut Bytes, core: &Core) -> Result<(), AllocError>

@@ -5,9 +5,9 @@ ghost use Rattle.ses_writer.specs.ByNet.{listed_text};
 
 use crate::by_net::NetLists;
 use crate::fixed::{put_net_close, put_net_open};
-use crate::names::put_name;
 use board_rules::Design;
 use layout_io::Bytes;
+use quoted_names::put_name;
 use std::alloc::AllocError;
 
 #[tactic(auto, unfolding(crate::specs::Session::net_text))]

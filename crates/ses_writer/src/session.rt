@@ -8,11 +8,11 @@ use crate::fixed::{
     put_back_text, put_design_open, put_middle_text, put_routes_open, put_session_open,
 };
 use crate::library::put_stacks;
-use crate::names::put_name;
 use crate::nets::put_nets;
 use board_core::Board;
 use board_rules::Design;
 use layout_io::Bytes;
+use quoted_names::put_name;
 use std::alloc::{AllocError, Global};
 
 #[tactic(auto, unfolding(crate::specs::Session::front_text))]

@@ -3,9 +3,9 @@ ghost use Rattle.std.specs.Prelude.{◌≡◌, ◌++◌, OnOk, if◌then◌else�
 ghost use Rattle.ses_writer.specs.Routes.{via_close, via_text};
 
 use crate::fixed::put_via_open;
-use crate::names::put_name;
 use crate::points::put_point;
 use layout_io::Bytes;
+use quoted_names::put_name;
 use seg_geometry::Pt;
 use std::alloc::AllocError;
 

@@ -3,10 +3,10 @@ ghost use Rattle.std.specs.Prelude.{◌≡◌, ◌++◌, [], OnOk, decimal, if�
 ghost use Rattle.ses_writer.specs.Routes.{path_line, type_line, wire_text};
 
 use crate::fixed::{put_path_close, put_path_open, put_wire_close, put_wire_open};
-use crate::names::put_name;
 use crate::points::put_lines;
 use itoa::Buffer;
 use layout_io::Bytes;
+use quoted_names::put_name;
 use seg_geometry::Pt;
 use std::alloc::AllocError;
 

@@ -1,5 +1,4 @@
-use Rattle.std.proofs.Common.{◌≡◌, ◌+◌, ap, arith}
-use Rattle.board_items.specs.Adds.{item_of_add}
+use Rattle.std.proofs.Common.{◌+◌, ap, arith}
 use Rattle.board_rules.specs.FitAdds.{IsFitAdd}
 use Rattle.board_rules.proofs.Walked.{all_left, left_is}
 use Rattle.number_slots.specs.Slots.{without}

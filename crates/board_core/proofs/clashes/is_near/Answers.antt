@@ -1,9 +1,7 @@
 use Rattle.std.proofs.Common.{◌≡◌, false, sym, ◌∙◌, arith}
 use Rattle.board_items.specs.Adds.{item_seen}
 use Rattle.board_rules.specs.Costs.{pair_most}
-use Rattle.board_rules.specs.Designs.{IsFitItem}
 use Rattle.number_slots.specs.Slots.{is_among, without}
-use Rattle.number_slots.proofs.ByNumber.{at_holds}
 use Rattle.number_slots.proofs.Sums.{sum_at}
 use Rattle.board_core.proofs.Near.{at_left, fit_at}
 use Rattle.board_core.proofs.clashes.is_near.Goals as goal

@@ -1,4 +1,4 @@
-use Rattle.std.proofs.Common.{ℕ, ◌≡◌, ◌+◌, ◌≤◌, ◌<◌, true, false, refl, arith}
+use Rattle.std.proofs.Common.{ℕ, ◌≡◌, ◌+◌, ◌<◌, true, false, refl, arith}
 use Rattle.board_items.specs.Adds.{item_seen}
 use Rattle.board_rules.specs.Costs.{pair_most}
 use Rattle.number_slots.specs.Slots.{without}

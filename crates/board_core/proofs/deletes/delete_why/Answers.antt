@@ -1,8 +1,7 @@
-use Rattle.std.proofs.Common.{rules, ◌≡◌, true, false, inl, inr, refl, sym, ap, ◌∙◌}
-use Rattle.board_items.specs.declared.items.Item.{Item}
+use Rattle.std.proofs.Common.{◌≡◌, true, false, inl, inr, refl, sym, ap, ◌∙◌}
 use Rattle.board_items.specs.Adds.{is_fixed}
-use Rattle.number_slots.specs.Slots.{is_among, IsAt}
-use Rattle.board_core.specs.Edits.{IsFixedAt}
+use Rattle.number_slots.specs.Slots.{is_among}
+use Rattle.board_core.specs.Reasons.{IsFixedAt}
 use Rattle.board_core.proofs.deletes.delete_why.Goals as goal
 
 pub returns-then-is_fixed : goal.returns-then-is_fixed

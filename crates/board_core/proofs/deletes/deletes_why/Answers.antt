@@ -1,4 +1,4 @@
-use Rattle.std.proofs.Common.{rules, ◌≡◌, refl, sym, subst, List, take, slice_index_or}
+use Rattle.std.proofs.Common.{refl, subst, List, take, slice_index_or}
 use Rattle.std.specs.Prelude.{Some, None, ℕ}
 use Rattle.board_core.specs.Edits.{IsDeleteReason}
 use Rattle.board_core.proofs.Reasons.{deletes_here, deletes_on}
