@@ -1,0 +1,12 @@
+pub mod Numbers
+pub mod Lists
+pub mod Needs
+pub mod Steps
+pub mod Refusals
+pub mod Made
+pub mod Cleanness
+pub mod Boundaries
+pub mod Order
+pub mod Guards
+pub mod Foreign
+pub mod Shields
