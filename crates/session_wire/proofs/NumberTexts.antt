@@ -9,7 +9,7 @@ use Rattle.std.proofs.lemmas.Fmt.{decimal_injective, decimal_nonempty}
 use Rattle.std.proofs.lemmas.Str.Parse.{not_in_digits}
 use Rattle.row_lists.specs.Limits.{coordinate_limit_nm}
 use Rattle.session_wire.specs.Words.{IsWord, EndsWord}
-use Rattle.session_wire.specs.Numbers.{number_text, IsBetween, IsId}
+use Rattle.session_wire.specs.Numbers.{number_text, IsBetween, IsId, IsSmall}
 use Rattle.session_wire.specs.Points.{coordinate_text, IsCoordinate}
 use Rattle.session_wire.specs.Parts.{Then, Begins, StopsAt}
 use Rattle.session_wire.proofs.Digits.{own, decimal_digits}
@@ -124,3 +124,9 @@ pub id_stops : (line : List ℕ) (left : ℕ) → EndsWord line → StopsAt (Beg
 id_stops line left ends = stops_behind (Begins IsId number_text) (Begins (IsBetween 0 4294967295) number_text) line [] line left refl ends
     (λ t end is. let (n, r, b) = is in (n, r, id_then t n r b))
     (λ t end is. let (n, r, b) = is in (n, r, record { formed = between_id n b.formed; ends = b.ends; spelled = b.spelled }))
+
+-- the numbers of a boundary's layers and clients, as numbers between two bounds
+pub small_stops : (line : List ℕ) (left : ℕ) → EndsWord line → StopsAt (Begins (IsBetween 0 255) number_text) line left → StopsAt (Begins IsSmall number_text) line left
+small_stops line left ends = stops_behind (Begins IsSmall number_text) (Begins (IsBetween 0 255) number_text) line [] line left refl ends
+    (λ t end is. let (n, r, b) = is in (n, r, record { formed = omega (arith, b.formed.1); ends = b.ends; spelled = b.spelled }))
+    (λ t end is. let (n, r, b) = is in (n, r, record { formed = (omega arith, omega (arith, b.formed)); ends = b.ends; spelled = b.spelled }))

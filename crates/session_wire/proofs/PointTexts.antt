@@ -6,7 +6,7 @@ use Rattle.std.proofs.lemmas.List.{append-nil}
 use Rattle.seg_geometry.specs.Points.{IsInRange}
 use Rattle.seg_geometry.specs.declared.points.Pt.{Pt}
 use Rattle.session_wire.specs.Words.{EndsWord}
-use Rattle.session_wire.specs.Numbers.{number_text, IsId}
+use Rattle.session_wire.specs.Numbers.{number_text, IsId, IsSmall}
 use Rattle.session_wire.specs.Points.{coordinate_text, point_text, IsCoordinate}
 use Rattle.session_wire.specs.Parts.{Then, Begins, StopsAt}
 use Rattle.session_wire.proofs.NumberTexts.{same_number, same_coordinate}
@@ -60,3 +60,10 @@ points = record { sample = make (pos 0) (pos 0); fits = in_range (pos 0) (pos 0)
 -- each number of an item has one text
 pub ids : IsSpelling IsId number_text
 ids = record { sample = 0; fits = omega arith; first = λ n r stop. refl; same = same_number }
+
+same_small : (n m : ℕ) (r s : List ℕ) → IsSmall n → IsSmall m → EndsWord r → EndsWord s → number_text n ++ r ≡ number_text m ++ s → (n ≡ m) × (r ≡ s)
+same_small n m r s low short = same_number n m r s (omega (arith, low)) (omega (arith, short))
+
+-- each number of a layer or a client of a boundary has one text
+pub smalls : IsSpelling IsSmall number_text
+smalls = record { sample = 0; fits = omega arith; first = λ n r stop. refl; same = same_small }

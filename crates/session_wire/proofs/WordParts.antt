@@ -1,5 +1,7 @@
 -- Words, and where they end.
-use Rattle.std.proofs.Common.{◌≡◌, ◌≢◌, ℕ, zero, suc, ◌<◌, ◌⊎◌, inl, inr, List, [], ◌∷◌, ◌++◌, length, take, drop, get_or, refl, sym, ◌∙◌, arith}
+use Rattle.std.proofs.Common.{◌≡◌, ◌≢◌, ℕ, zero, suc, Bool, true, false, eqb, ◌<◌, ◌⊎◌, inl, inr, List, [], ◌∷◌, ◌++◌, length, take, drop, get_or, refl, sym, ◌∙◌, arith}
+use Rattle.std.specs.List.{AllByRecursion}
+use Rattle.std.proofs.lemmas.Bool.{eqb-false}
 use Rattle.session_wire.specs.Words.{IsWord, EndsWord}
 
 tail_is : (a b : ℕ) (x y : List ℕ) → a ∷ x ≡ b ∷ y → x ≡ y
@@ -59,3 +61,22 @@ ends_there (x ∷ xs) (suc i) lt e = ends_there xs i (omega arith) e
 pub word_back : (x more : List ℕ) → IsWord (x ++ more) → IsWord more
 word_back [] more p = p
 word_back (b ∷ x) more p = word_back x more p.1
+
+abbrev either : Bool → Bool → Bool
+either true b = true
+either false b = b
+
+either_false : (a b : Bool) → either a b ≡ false → (a ≡ false) × (b ≡ false)
+either_false true b e = absurd cc
+either_false false b e = (refl, e)
+
+-- the byte stands among the bytes
+abbrev pub stands : ℕ → List ℕ → Bool
+stands x [] = false
+stands x (b ∷ w) = either (eqb b x) (stands x w)
+
+pub bytes_without : (x : ℕ) (w : List ℕ) → stands x w ≡ false → AllByRecursion (λ b. b ≢ x) w
+bytes_without x [] e = tt
+bytes_without x (b ∷ w) e =
+    let both = either_false (eqb b x) (stands x w) e in
+    (eqb-false b x both.0, bytes_without x w both.1)

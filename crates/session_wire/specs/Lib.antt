@@ -1,9 +1,13 @@
 pub mod Adds
+pub mod EntryLines
+pub mod Kept
 pub mod Lines
+pub mod Messages
 pub mod Numbers
 pub mod Parts
 pub mod Places
 pub mod Points
+pub mod Readings
 pub mod Replies
 pub mod Requests
 pub mod Steps

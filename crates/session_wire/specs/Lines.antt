@@ -10,10 +10,12 @@ use Rattle.session_wire.specs.Replies.{reply_text}
 use Rattle.session_wire.specs.declared.steps.ScriptStep.{ScriptStep}
 use Rattle.session_wire.specs.declared.steps.ScriptStep.TheVariants as steps
 
--- a line of a script, without its line feed: the client and what it does
+-- a line of a script, without its line feed: the client and what it asks for, or that it leaves
 abbrev pub step_text : ScriptStep → List ℕ
 step_text (steps.Do client request) = codes "do" ++ (number_text client ++ (32 ∷ request_text request))
+step_text (steps.Leave client) = codes "leave" ++ number_text client
 
+-- what was accepted: the request, or that the client left
 abbrev pub act_text : Act → List ℕ
 act_text (acts.Ask request) = request_text request
 act_text acts.Leave = codes "leave"

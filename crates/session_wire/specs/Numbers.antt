@@ -9,6 +9,10 @@ number_text n = 32 ∷ decimal n
 abbrev pub IsBetween : ℕ → ℕ → ℕ → Type 0
 IsBetween least most n = (least ≤ n) × (n ≤ most)
 
--- the number of an item, a net, a layer or a padstack
+-- the number of an item, a net, a wire's layer, a padstack or a boundary
 abbrev pub IsId : ℕ → Type 0
 IsId id = id < 2 ^ 32
+
+-- the number of a boundary's layer, or of a client that a boundary names
+abbrev pub IsSmall : ℕ → Type 0
+IsSmall n = n < 256

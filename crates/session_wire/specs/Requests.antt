@@ -4,7 +4,6 @@ use Rattle.seg_geometry.specs.declared.points.Pt.{Pt}
 use Rattle.board_items.specs.declared.requests.Add.{Add}
 use Rattle.board_items.specs.declared.requests.Request.{Request}
 use Rattle.board_items.specs.declared.requests.Request.TheVariants as requests
-use Rattle.board_items.specs.Formed.{IsFormed, IsEdit}
 use Rattle.session_wire.specs.Numbers.{number_text}
 use Rattle.session_wire.specs.Points.{point_text}
 use Rattle.session_wire.specs.Adds.{next_add_text}
@@ -30,7 +29,3 @@ request_text (requests.Entitle fence client) = codes "entitle" ++ (number_text f
 -- a request behind a space
 abbrev pub next_request_text : Request → List ℕ
 next_request_text request = 32 ∷ request_text request
-
--- a request of the kinds that are read, with counts and numbers in range
-abbrev pub IsReadable : Request → Type 0
-IsReadable request = IsFormed request × IsEdit request

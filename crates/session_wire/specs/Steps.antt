@@ -10,11 +10,12 @@ use Rattle.session_wire.specs.declared.steps.ScriptStep.{ScriptStep}
 use Rattle.session_wire.specs.declared.steps.ScriptStep.TheVariants as steps
 use Rattle.session_wire.specs.Lines.{step_text}
 use Rattle.session_wire.specs.Places.{IsBadAt}
-use Rattle.session_wire.specs.Requests.{IsReadable}
+use Rattle.board_items.specs.Formed.{IsFormed}
 
--- one of the clients 1 to 8 asks for an edit, whose counts and numbers are in range
+-- one of the clients 1 to 8 asks for a change whose counts and numbers are in range, or leaves
 abbrev pub IsStep : ScriptStep → Type 0
-IsStep (steps.Do client request) = (1 ≤ client) × (client ≤ client_limit) × IsReadable request
+IsStep (steps.Do client request) = (1 ≤ client) × (client ≤ client_limit) × IsFormed request
+IsStep (steps.Leave client) = (1 ≤ client) × (client ≤ client_limit)
 
 -- the line spells the step
 pub record Reads (line : List ℕ) (step : ScriptStep) : Type 0 where

@@ -13,7 +13,7 @@ use crate::numbers::number_at;
 use crate::points::{counted_points_at, point_at};
 use crate::words::{is_word, word_at};
 use board_items::{Add, Adds};
-use row_lists::{ADD_LIMIT, WIDTH_LIMIT_NM};
+use row_lists::{ADD_LIMIT, WIDTH_LIMIT_NM, WIRE_POINT_LIMIT};
 use std::alloc::{AllocError, Global};
 
 // The wire behind its word, and what follows it.
@@ -25,7 +25,7 @@ fn wire_at(alloc: Global, line: &[u8]) -> Result<(Add, &[u8]), Halt>
     let (net, from_layer) = id_at(line)?;
     let (layer, from_width) = id_at(from_layer)?;
     let (width, from_points) = number_at(from_width, 1, WIDTH_LIMIT_NM)?;
-    let (points, rest) = counted_points_at(alloc, from_points)?;
+    let (points, rest) = counted_points_at(alloc, from_points, 2, WIRE_POINT_LIMIT as u32)?;
     let add = Add::Wire {
         net,
         layer,

@@ -2,7 +2,6 @@
 ghost use Rattle.std.specs.Prelude.{◌≡◌, ◌≤◌, ◌∷◌, ◌≢◌, IfOk, IfErr, IfSome, IfNone, ℕ, List, ℤ, unsigned_abs};
 ghost use Rattle.std.specs.Fmt.{signed_decimal};
 ghost use Rattle.seg_geometry.specs.Points.{IsInRange};
-ghost use Rattle.row_lists.specs.Limits.{wire_point_limit};
 ghost use Rattle.session_wire.specs.Words.{EndsWord};
 ghost use Rattle.session_wire.specs.Points.{coordinate_text, point_text, IsCoordinate};
 ghost use Rattle.session_wire.specs.Parts.{Then, Begins, StopsAt, AreSo, AreThen, AreCounted, CountedThen, counted_text, WhyHalts};
@@ -11,7 +10,7 @@ ghost use Rattle.std.specs.List.{flat_map};
 use crate::faults::Halt;
 use crate::numbers::{number_at, number_in};
 use crate::words::{after, word_at};
-use row_lists::{COORDINATE_LIMIT_NM, WIRE_POINT_LIMIT};
+use row_lists::COORDINATE_LIMIT_NM;
 use seg_geometry::{Points, Pt};
 use std::alloc::{AllocError, Global};
 
@@ -87,12 +86,18 @@ fn points_at(alloc: Global, line: &[u8], count: u32) -> Result<(Points, &[u8]), 
     Ok((points, rest))
 }
 
-// How many points a wire has, these, and what follows them.
-pub(crate) fn counted_points_at(alloc: Global, line: &[u8]) -> Result<(Points, &[u8]), Halt>
-    requires { EndsWord line.now }
-    ensures ok { IfOk result (λ x. CountedThen IsInRange point_text 2 wire_point_limit line.now x.0 x.1.now) }
-    ensures err { IfErr result (WhyHalts (Begins (AreCounted 2 wire_point_limit IsInRange) (counted_text point_text)) line.now) }
+// How many points there are, as many as two bounds allow, these, and what follows them.
+pub(crate) fn counted_points_at(
+    alloc: Global,
+    line: &[u8],
+    least: u32,
+    most: u32,
+) -> Result<(Points, &[u8]), Halt>
+    requires here { EndsWord line.now }
+    requires some { least ≤ most }
+    ensures ok { IfOk result (λ x. CountedThen IsInRange point_text least most line.now x.0 x.1.now) }
+    ensures err { IfErr result (WhyHalts (Begins (AreCounted least most IsInRange) (counted_text point_text)) line.now) }
 {
-    let (count, rest) = number_at(line, 2, WIRE_POINT_LIMIT as u32)?;
+    let (count, rest) = number_at(line, least, most)?;
     points_at(alloc, rest, count)
 }

@@ -1,32 +1,19 @@
 //! How the lines of a script are read.
 ghost use Rattle.std.specs.Prelude.{◌≡◌, ◌≤◌, ◌++◌, codes, IfOk, IfErr, length, ℕ, List, Result, Ok, Err};
-ghost use Rattle.row_lists.specs.Limits.{client_limit};
 ghost use Rattle.session_wire.specs.declared.faults.LineFault.TheVariants.{Bad};
 ghost use Rattle.session_wire.specs.declared.steps.ScriptStep.{ScriptStep};
 ghost use Rattle.session_wire.specs.Lines.{step_text};
 ghost use Rattle.session_wire.specs.Words.{EndsWord};
-ghost use Rattle.session_wire.specs.Numbers.{number_text, IsBetween};
-ghost use Rattle.session_wire.specs.Parts.{Then, Begins, StopsAt, WhyHalts};
+ghost use Rattle.session_wire.specs.Parts.{WhyHalts};
 ghost use Rattle.session_wire.specs.Places.{IsBadAt};
 ghost use Rattle.session_wire.specs.Steps.{IsStep, IsLine, Reads, HasStep, WhyStopped, WhyUnread, Gives};
 
 use crate::ScriptStep;
+use crate::clients::client_at;
 use crate::faults::{Halt, LineFault};
-use crate::numbers::number_at;
 use crate::requests::request_at;
 use crate::words::{end_at, is_word, split_word};
-use row_lists::CLIENT_LIMIT;
 use std::alloc::Global;
-
-// The next number of a client, and what follows it.
-fn client_at(line: &[u8]) -> Result<(u8, &[u8]), usize>
-    requires { EndsWord line.now }
-    ensures ok { IfOk result (λ x. Then (IsBetween 1 client_limit) number_text line.now x.0 x.1.now) }
-    ensures err { IfErr result (StopsAt (Begins (IsBetween 1 client_limit) number_text) line.now) }
-{
-    let (client, rest) = number_at(line, 1, u32::from(CLIENT_LIMIT))?;
-    Ok((client as u8, rest))
-}
 
 // The step behind the word `do`, which ends the line.
 fn do_at(alloc: Global, line: &[u8]) -> Result<ScriptStep, Halt>
@@ -40,6 +27,17 @@ fn do_at(alloc: Global, line: &[u8]) -> Result<ScriptStep, Halt>
     Ok(ScriptStep::Do { client, request })
 }
 
+// The leave behind the word `leave`, which ends the line.
+fn leave_at(line: &[u8]) -> Result<ScriptStep, Halt>
+    requires { EndsWord line.now }
+    ensures ok { IfOk result (Reads (codes "leave" ++ line.now)) }
+    ensures err { IfErr result (WhyHalts (λ t. HasStep (codes "leave" ++ t)) line.now) }
+{
+    let (client, rest) = client_at(line)?;
+    end_at(rest)?;
+    Ok(ScriptStep::Leave { client })
+}
+
 // The step that the line spells: a row for each word that one may begin with.
 fn step_of(alloc: Global, line: &[u8]) -> Result<ScriptStep, Halt>
     ensures ok { IfOk result (Reads line.now) }
@@ -48,6 +46,9 @@ fn step_of(alloc: Global, line: &[u8]) -> Result<ScriptStep, Halt>
     let (word, rest) = split_word(line);
     if is_word(word, b"do") {
         return do_at(alloc, rest);
+    }
+    if is_word(word, b"leave") {
+        return leave_at(rest);
     }
     Err(Halt::Left { left: line.len() })
 }

@@ -8,6 +8,8 @@ use row_lists::Row;
 pub enum ScriptStep {
     /// A client asks for a change. Clients are numbered from 1.
     Do { client: u8, request: Request },
+    /// A client leaves.
+    Leave { client: u8 },
 }
 
 /// The lines of a script in their order.

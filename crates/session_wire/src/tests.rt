@@ -1,11 +1,11 @@
 use crate::{
-    LineFault, ScriptStep, a_step_is_not_bad, a_step_is_short, decode_script_line,
-    each_line_has_a_step_or_is_bad, one_bad_byte, one_step, step_is_one_line, write_entry,
-    write_reply,
+    Feeder, LineFault, Next, ScriptStep, a_step_is_not_bad, a_step_is_short, decode_entry,
+    decode_line, decode_script_line, each_line_has_a_step_or_is_bad, entry_is_one_line,
+    message_is_one_line, one_bad_byte, one_entry, one_message, one_step, step_is_one_line,
+    write_entry, write_message, write_reply,
 };
-use board_items::{Act, Clients, Entry, ItemId, Layers, Reply, Request, Why};
+use board_items::{Act, Entry, ItemId, Reply, Why};
 use layout_io::Bytes;
-use seg_geometry::{Points, Pt};
 use std::alloc::{AllocError, Global};
 use std::test::Fail;
 
@@ -29,6 +29,15 @@ fn lines_of_the_form_are_read(rt: HostRuntime) -> Result<(), Fail> {
         "do 1 edit 0 1 via 4294967295 4294967295 1000000000 -1000000000",
         "do 1 edit 0 2 via 0 0 0 0 via 0 0 0 0",
         "do 1 edit 1 4294967295 0",
+        "do 1 reserve 4294967295",
+        "do 8 release 0",
+        "do 1 fence 1 255 0 0",
+        "do 1 fence 1 0 3 0 0 -1000000000 0 0 1000000000 0",
+        "do 1 fence 2 0 0 0 2 0 255",
+        "do 1 unfence 4294967295",
+        "do 1 entitle 4294967295 255",
+        "leave 1",
+        "leave 8",
     ] {
         assert_eq!(rt; bad_at(rt.alloc(), line.as_bytes()), None, "{line}");
     }
@@ -65,7 +74,29 @@ fn a_step_is_bad_at_its_first_lost_word(rt: HostRuntime) -> Result<(), Fail> {
         ("do 1 ", ""),
         ("do 1 ", "edits 0 0"),
         ("do 1 ", " edit 0 0"),
-        ("do 1 ", "reserve 01"),
+        ("do 1 ", "leave"),
+    ] {
+        let line = joined(rt.alloc(), read, lost)?;
+        let at = bad_at(rt.alloc(), line.as_slice());
+        assert_eq!(rt; at, Some(read.len() as u32), "{read}, then {lost}");
+    }
+    Ok(())
+}
+
+#[test]
+fn a_leave_is_bad_at_its_first_lost_word(rt: HostRuntime) -> Result<(), Fail> {
+    for (read, lost) in [
+        ("", "leaves 1"),
+        ("leave", ""),
+        ("leave ", ""),
+        ("leave ", "0"),
+        ("leave ", "9"),
+        ("leave ", "01"),
+        ("leave ", " 1"),
+        ("leave 1 ", ""),
+        ("leave 1 ", "1"),
+        ("", "look 1"),
+        ("", "ask 1 edit 0 0"),
     ] {
         let line = joined(rt.alloc(), read, lost)?;
         let at = bad_at(rt.alloc(), line.as_slice());
@@ -148,6 +179,63 @@ fn a_via_is_bad_at_its_first_lost_word(rt: HostRuntime) -> Result<(), Fail> {
     Ok(())
 }
 
+#[test]
+fn a_named_item_or_boundary_is_bad_at_its_first_lost_word(rt: HostRuntime) -> Result<(), Fail> {
+    for (read, lost) in [
+        ("do 1 reserve", ""),
+        ("do 1 reserve ", ""),
+        ("do 1 reserve ", "01"),
+        ("do 1 reserve ", "4294967296"),
+        ("do 1 reserve 7 ", ""),
+        ("do 1 reserve 7 ", "8"),
+        ("do 1 release", ""),
+        ("do 1 release ", " 7"),
+        ("do 1 unfence", ""),
+        ("do 1 unfence ", "4294967296"),
+        ("do 1 unfence 3 ", ""),
+        ("do 1 entitle", ""),
+        ("do 1 entitle ", "4294967296 1"),
+        ("do 1 entitle 3", ""),
+        ("do 1 entitle 3 ", "256"),
+        ("do 1 entitle 3 ", "00"),
+        ("do 1 entitle 3 4 ", "5"),
+    ] {
+        let line = joined(rt.alloc(), read, lost)?;
+        let at = bad_at(rt.alloc(), line.as_slice());
+        assert_eq!(rt; at, Some(read.len() as u32), "{read}, then {lost}");
+    }
+    Ok(())
+}
+
+#[test]
+fn a_boundary_is_bad_at_its_first_lost_word(rt: HostRuntime) -> Result<(), Fail> {
+    for (read, lost) in [
+        ("do 1 fence", ""),
+        ("do 1 fence ", "0 0 0"),
+        ("do 1 fence ", "01 0 0 0"),
+        ("do 1 fence 1", ""),
+        ("do 1 fence 1 ", "256 0 0"),
+        ("do 1 fence 1 ", " 0 0"),
+        ("do 1 fence 2 0 ", "00 0 0"),
+        ("do 1 fence 1 0", ""),
+        ("do 1 fence 1 0 ", "-1"),
+        ("do 1 fence 1 0 1", ""),
+        ("do 1 fence 1 0 1 ", "1000000001 0 0"),
+        ("do 1 fence 1 0 1 0", ""),
+        ("do 1 fence 1 0 1 0 ", "-0 0"),
+        ("do 1 fence 1 0 1 0 0", ""),
+        ("do 1 fence 1 0 0 1", ""),
+        ("do 1 fence 1 0 0 1 ", "256"),
+        ("do 1 fence 1 0 0 0 ", ""),
+        ("do 1 fence 1 0 0 0 ", "0"),
+    ] {
+        let line = joined(rt.alloc(), read, lost)?;
+        let at = bad_at(rt.alloc(), line.as_slice());
+        assert_eq!(rt; at, Some(read.len() as u32), "{read}, then {lost}");
+    }
+    Ok(())
+}
+
 // By hand: a count out of range is bad where it stands, and a missing thing where the line ends.
 #[test]
 fn as_many_things_are_read_as_are_counted(rt: HostRuntime) -> Result<(), Fail> {
@@ -160,6 +248,12 @@ fn as_many_things_are_read_as_are_counted(rt: HostRuntime) -> Result<(), Fail> {
         ("do 1 edit 0 64", 64, " via 0 0 7 -7", "", None),
         ("do 1 edit 0 65", 65, " via 0 0 7 -7", "", Some(12)),
         ("do 1 edit 0 1 via 0 0 ", 1, "1000000001", " 0", Some(22)),
+        ("do 1 fence 32", 32, " 255", " 0 0", None),
+        ("do 1 fence 33", 33, " 255", " 0 0", Some(11)),
+        ("do 1 fence 1 0 256", 256, " 7 -7", " 0", None),
+        ("do 1 fence 1 0 257", 257, " 7 -7", " 0", Some(15)),
+        ("do 1 fence 1 0 0 8", 8, " 9", "", None),
+        ("do 1 fence 1 0 0 9", 9, " 9", "", Some(17)),
         ("", 8192, "x", "", Some(0)),
     ] {
         let mut line = Bytes::new(rt.alloc());
@@ -207,7 +301,7 @@ fn the_longest_line_is_read(rt: HostRuntime) -> Result<(), Fail> {
     Ok(())
 }
 
-// By hand: an entry's line has the request as the script has it.
+// By hand: an entry's line has the act as the script has it.
 #[test]
 fn what_was_read_is_written_as_an_entry(rt: HostRuntime) -> Result<(), Fail> {
     step_is_one_line();
@@ -218,26 +312,37 @@ fn what_was_read_is_written_as_an_entry(rt: HostRuntime) -> Result<(), Fail> {
     for (line, want) in [
         (
             "do 2 edit 0 1 wire 3 1 250000 2 0 -5 1000000 0",
-            "entry 12 2 edit 0 1 wire 3 1 250000 2 0 -5 1000000 0\n",
+            "entry 4294967295 2 edit 0 1 wire 3 1 250000 2 0 -5 1000000 0\n",
         ),
         (
             "do 8 edit 0 1 via 3 4 -5 6",
-            "entry 12 8 edit 0 1 via 3 4 -5 6\n",
+            "entry 4294967295 8 edit 0 1 via 3 4 -5 6\n",
         ),
-        ("do 1 edit 2 7 41 0", "entry 12 1 edit 2 7 41 0\n"),
         (
             "do 1 edit 1 7 3 via 1 2 3 4 wire 5 6 7 2 8 9 10 11 via 1 2 3 4",
-            "entry 12 1 edit 1 7 3 via 1 2 3 4 wire 5 6 7 2 8 9 10 11 via 1 2 3 4\n",
+            "entry 4294967295 1 edit 1 7 3 via 1 2 3 4 wire 5 6 7 2 8 9 10 11 via 1 2 3 4\n",
         ),
-        ("do 1 edit 0 0", "entry 12 1 edit 0 0\n"),
+        ("do 1 edit 0 0", "entry 4294967295 1 edit 0 0\n"),
+        ("do 3 reserve 7", "entry 4294967295 3 reserve 7\n"),
+        ("do 3 release 7", "entry 4294967295 3 release 7\n"),
+        (
+            "do 4 fence 2 0 255 2 0 -5 6 7 1 2",
+            "entry 4294967295 4 fence 2 0 255 2 0 -5 6 7 1 2\n",
+        ),
+        ("do 5 unfence 3", "entry 4294967295 5 unfence 3\n"),
+        ("do 5 entitle 3 4", "entry 4294967295 5 entitle 3 4\n"),
+        ("leave 6", "entry 4294967295 6 leave\n"),
     ] {
         let mut out = Bytes::new(rt.alloc());
-        let step = decode_script_line(rt.alloc(), line.as_bytes());
-        if let Ok(ScriptStep::Do { client, request }) = step {
+        if let Ok(step) = decode_script_line(rt.alloc(), line.as_bytes()) {
+            let (client, act) = match step {
+                ScriptStep::Do { client, request } => (client, Act::Ask { request }),
+                ScriptStep::Leave { client } => (client, Act::Leave),
+            };
             let entry = Entry {
-                number: 12,
+                number: 4294967295,
                 client,
-                act: Act::Ask { request },
+                act,
             };
             write_entry(&entry, &mut out)?;
         }
@@ -246,49 +351,143 @@ fn what_was_read_is_written_as_an_entry(rt: HostRuntime) -> Result<(), Fail> {
     Ok(())
 }
 
-// By hand, each kind of act once.
-#[test]
-fn entries_are_spelled(rt: HostRuntime) -> Result<(), Fail> {
-    let layers = Layers::from_slice(rt.alloc(), &[0, 255])?;
-    let area = Points::from_slice(rt.alloc(), &[Pt { x: 0, y: -5 }])?;
-    let clients = Clients::from_slice(rt.alloc(), &[2])?;
-    let id = ItemId(7);
-    let fence = 3;
-    for (request, want) in [
-        (Request::Reserve { id }, "entry 1 8 reserve 7\n"),
-        (Request::Release { id }, "entry 1 8 release 7\n"),
-        (
-            Request::Fence {
-                layers,
-                area,
-                clients,
-            },
-            "entry 1 8 fence 2 0 255 1 0 -5 1 2\n",
-        ),
-        (Request::Unfence { fence }, "entry 1 8 unfence 3\n"),
-        (
-            Request::Entitle { fence, client: 4 },
-            "entry 1 8 entitle 3 4\n",
-        ),
-    ] {
-        let mut out = Bytes::new(rt.alloc());
-        let entry = Entry {
-            number: 1,
-            client: 8,
-            act: Act::Ask { request },
-        };
-        write_entry(&entry, &mut out)?;
-        assert_eq!(rt; out.as_slice(), want.as_bytes(), "{want}");
+// The byte at which a client's line is bad, and none where it has a reading.
+fn message_bad_at(alloc: Global, line: &[u8]) -> Option<u32> {
+    match decode_line(alloc, line) {
+        Ok(_) => None,
+        Err(LineFault::Bad { at }) => Some(at),
+        Err(LineFault::Memory) => Some(u32::MAX),
     }
+}
+
+#[test]
+fn a_clients_line_is_bad_at_its_first_lost_word(rt: HostRuntime) -> Result<(), Fail> {
+    message_is_one_line();
+    one_message();
+    for (read, lost) in [
+        ("", ""),
+        ("", "Bye"),
+        ("", " bye"),
+        ("", "do 1 edit 0 0"),
+        ("bye ", ""),
+        ("bye ", "1"),
+        ("edit", ""),
+        ("edit ", "257 0"),
+        ("edit 0 0 ", ""),
+        ("reserve 7 ", "8"),
+        ("fence 1 ", "256 0 0"),
+    ] {
+        let line = joined(rt.alloc(), read, lost)?;
+        let at = message_bad_at(rt.alloc(), line.as_slice());
+        assert_eq!(rt; at, Some(read.len() as u32), "{read}, then {lost}");
+    }
+    Ok(())
+}
+
+// The byte at which an entry's line is bad, and none where it has a reading.
+fn entry_bad_at(alloc: Global, line: &[u8]) -> Option<u32> {
+    match decode_entry(alloc, line) {
+        Ok(_) => None,
+        Err(LineFault::Bad { at }) => Some(at),
+        Err(LineFault::Memory) => Some(u32::MAX),
+    }
+}
+
+#[test]
+fn an_entrys_line_is_bad_at_its_first_lost_word(rt: HostRuntime) -> Result<(), Fail> {
+    entry_is_one_line();
+    one_entry();
+    for (read, lost) in [
+        ("", ""),
+        ("", "entries 1 1 leave"),
+        ("entry", ""),
+        ("entry ", "0 1 leave"),
+        ("entry ", "4294967296 1 leave"),
+        ("entry 1 ", "9 leave"),
+        ("entry 1 1", ""),
+        ("entry 1 1 ", ""),
+        ("entry 1 1 ", "leaves"),
+        ("entry 1 1 ", "bye"),
+        ("entry 1 1 leave ", "1"),
+        ("entry 1 1 reserve ", "01"),
+        ("entry 1 1 edit 0 0 ", ""),
+    ] {
+        let line = joined(rt.alloc(), read, lost)?;
+        let at = entry_bad_at(rt.alloc(), line.as_slice());
+        assert_eq!(rt; at, Some(read.len() as u32), "{read}, then {lost}");
+    }
+    Ok(())
+}
+
+// By hand: a line has one spelling.
+#[test]
+fn what_was_read_is_written_again(rt: HostRuntime) -> Result<(), Fail> {
     let mut out = Bytes::new(rt.alloc());
-    let entry = Entry {
-        number: 4294967295,
-        client: 1,
-        act: Act::Leave,
-    };
-    write_entry(&entry, &mut out)?;
-    let want = b"entry 4294967295 1 leave\n".as_slice();
-    assert_eq!(rt; out.as_slice(), want, "a client that leaves");
+    for line in ["edit 1 7 1 via 3 4 -5 6", "entitle 3 255", "bye"] {
+        if let Ok(message) = decode_line(rt.alloc(), line.as_bytes()) {
+            write_message(&message, &mut out)?;
+        }
+    }
+    for line in ["entry 4294967295 8 leave", "entry 1 1 fence 1 0 0 0"] {
+        if let Ok(entry) = decode_entry(rt.alloc(), line.as_bytes()) {
+            write_entry(&entry, &mut out)?;
+        }
+    }
+    let want =
+        b"edit 1 7 1 via 3 4 -5 6\nentitle 3 255\nbye\nentry 4294967295 8 leave\nentry 1 1 fence 1 0 0 0\n".as_slice();
+    assert_eq!(rt; out.as_slice(), want, "each line once");
+    Ok(())
+}
+
+// What is taken off next: a line and a bar behind it, a question mark where none is there yet, or a cross.
+fn put_next(feeder: &mut Feeder, to: &mut Bytes) -> Result<(), AllocError> {
+    match feeder.take_line() {
+        Next::Line { bytes } => {
+            to.append(bytes.as_slice())?;
+            to.append(b"|".as_slice())
+        }
+        Next::NotYet => to.append(b"?".as_slice()),
+        Next::TooLong => to.append(b"x".as_slice()),
+    }
+}
+
+// By hand: a line ends at its line feed, wherever a piece ends.
+#[test]
+fn lines_do_not_depend_on_the_cut(rt: HostRuntime) -> Result<(), Fail> {
+    for (front, back) in [
+        ("bye\nreserve 7\nby", ""),
+        ("by", "e\nreserve 7\nby"),
+        ("bye", "\nreserve 7\nby"),
+        ("bye\nreserve", " 7\nby"),
+    ] {
+        let mut feeder = Feeder::new(rt.alloc());
+        let mut out = Bytes::new(rt.alloc());
+        feeder.feed(front.as_bytes())?;
+        feeder.feed(back.as_bytes())?;
+        for _ in 0..3 {
+            put_next(&mut feeder, &mut out)?;
+        }
+        assert_eq!(rt;
+            out.as_slice(),
+            b"bye|reserve 7|?".as_slice(),
+            "{front}, then {back}"
+        );
+    }
+    Ok(())
+}
+
+// By hand: a line may have 8,192 bytes.
+#[test]
+fn a_line_of_8193_bytes_is_too_long(rt: HostRuntime) -> Result<(), Fail> {
+    for (count, want) in [(8192, b"?".as_slice()), (8193, b"x".as_slice())] {
+        let mut feeder = Feeder::new(rt.alloc());
+        let mut out = Bytes::new(rt.alloc());
+        for _ in 0..count {
+            feeder.feed(b"a".as_slice())?;
+        }
+        put_next(&mut feeder, &mut out)?;
+        assert_eq!(rt; out.as_slice(), want, "{count} bytes");
+    }
     Ok(())
 }
 

@@ -6,8 +6,8 @@ use Rattle.session_wire.proofs.points.counted_points_at.Goals as goal
 
 pub returns-in_err-count-clause-err : goal.returns-in_err-count-clause-err
 returns-in_err-count-clause-err c =
-    handed_count _ c.in_err-count.field-0.0 c.from_residual.ensures.1 (stops_at_count points 2 256 c.args.line.now c.in_err-count.field-0.0 c.requires c.in_err-count.ensures.err)
+    handed_count _ c.in_err-count.field-0.0 c.from_residual.ensures.1 (stops_at_count points c.args.least c.args.most c.args.line.now c.in_err-count.field-0.0 c.requires.here c.in_err-count.ensures.err)
 
 pub returns-clause-err : goal.returns-clause-err
 returns-clause-err c =
-    same_halt c.points_at.result c.points_at.ensures.err (λ left. stops_behind_count points 2 256 c.in_ok-count.count c.args.line.now c.in_ok-count.rest.now left (omega arith) c.in_ok-count.ensures.ok)
+    same_halt c.points_at.result c.points_at.ensures.err (λ left. stops_behind_count points c.args.least c.args.most c.in_ok-count.count c.args.line.now c.in_ok-count.rest.now left (omega arith) c.in_ok-count.ensures.ok)
