@@ -2,14 +2,14 @@
 use Rattle.std.proofs.Common.{◌≡◌, ◌≢◌, ◌⊎◌, ℕ, List, [], ◌∷◌, sym, refl, subst, ◌∙◌, arith, inl, inr}
 use Rattle.layout_io.specs.Told.{SinkTold, FilesTold}
 use Rattle.board_rules.specs.declared.design.Design.{Design}
-use Rattle.layout_server.specs.Words.{Asked}
+use Rattle.whole_files.specs.Words.{Asked}
 use Rattle.layout_server.specs.Inputs.{HasToldClean}
-use Rattle.layout_server.specs.Stops.{Stops, Tells, HasCounts, NoFault, status_of}
+use Rattle.whole_files.specs.Stops.{Stops, Tells, HasCounts, NoFault, status_of}
 use Rattle.layout_server.specs.Checks.{Checks, CheckStop}
-use Rattle.layout_server.specs.declared.stop.Stop.{Stop}
-use Rattle.layout_server.specs.declared.stop.Stop.TheVariants as stops
+use Rattle.whole_files.specs.declared.stop.Stop.{Stop}
+use Rattle.whole_files.specs.declared.stop.Stop.TheVariants as stops
 use Rattle.layout_server.proofs.Excluded.{told_fault, told_unclean}
-use Rattle.layout_server.proofs.Ended.{later, rose_later, quiet, not_read, not_written, done_counts, not_zero}
+use Rattle.whole_files.proofs.Statuses.{later, rose_later, quiet, not_read, not_written, done_counts, not_zero}
 
 check_counts_of : (stop : Stop) (name : List ℕ) (f g : FilesTold) (o m p : SinkTold) (line : List ℕ) → CheckStop name f g o m stop → Tells line m p → HasCounts (status_of stop) f g o p
 check_counts_of (stops.Design e) name f g o m p line h tells = quiet 2 f g o p (λ e. absurd (omega (arith, e))) (λ e. absurd (omega (arith, e))) (λ e. absurd (omega (arith, e))) h.0.1.reads h.0.1.writes

@@ -3,14 +3,14 @@ use Rattle.std.proofs.Common.{◌≡◌, ℕ, List, [], ◌∷◌, Result, Ok, E
 use Rattle.std.specs.Prelude.{IfSome, OnOk}
 use Rattle.layout_io.specs.Told.{SinkTold, FilesTold}
 use Rattle.board_rules.specs.declared.design.Design.{Design}
-use Rattle.layout_server.specs.Outside.{OnlyRead}
-use Rattle.layout_server.specs.Puts.{IsPut, PutStop}
+use Rattle.whole_files.specs.Outside.{OnlyRead}
+use Rattle.whole_files.specs.Puts.{IsPut, PutStop}
 use Rattle.layout_server.specs.Inputs.{HasClean}
 use Rattle.layout_server.specs.Loads.{DesignStop}
 use Rattle.layout_server.specs.Checks.{Checks, CheckStop, line_of}
-use Rattle.layout_server.specs.declared.stop.Stop.{Stop}
-use Rattle.layout_server.specs.declared.stop.Stop.TheVariants as stops
-use Rattle.layout_server.proofs.Loads.{short_of}
+use Rattle.whole_files.specs.declared.stop.Stop.{Stop}
+use Rattle.whole_files.specs.declared.stop.Stop.TheVariants as stops
+use Rattle.whole_files.proofs.Founds.{short_of}
 
 -- before the line
 pub load_stops : (stop : Stop) (name : List ℕ) (f g : FilesTold) (o : SinkTold) → DesignStop name f g stop → CheckStop name f g o o stop

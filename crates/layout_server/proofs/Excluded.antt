@@ -8,9 +8,9 @@ use Rattle.dsn_lists.specs.declared.faults.DesignFault.{DesignFault}
 use Rattle.dsn_reader.specs.Design.{IsDesign}
 use Rattle.dsn_reader.proofs.Laws.{one_design, no_fault}
 use Rattle.layout_server.specs.Words.{Names}
-use Rattle.layout_server.specs.Scripts.{IsScript}
+use Rattle.script_replay.specs.Scripts.{IsScript}
 use Rattle.layout_server.specs.Inputs.{HasDesign, HasClean, HasUnclean, IsClean, AreLeast, HasFault, HasSteps, HasBadLine, HasToldClean, HasToldInputs}
-use Rattle.layout_server.proofs.Steps.{not_bad}
+use Rattle.script_replay.proofs.Steps.{not_bad}
 
 same_found : (o : Option (List ℕ)) (a b : List ℕ) → o ≡ Some a → o ≡ Some b → a ≡ b
 same_found o a b p q = let both : Some a ≡ Some b = sym p ∙ q in cc

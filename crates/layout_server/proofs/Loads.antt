@@ -1,6 +1,5 @@
 -- What is known of the inputs from the bytes that were read of their files.
-use Rattle.std.proofs.Common.{◌≡◌, ℕ, ◌<◌, ◌≤◌, List, [], ◌∷◌, ◌++◌, length, Option, Some, None, sym, ap, ◌∙◌, append_assoc, length-append, arith, inl, inr}
-use Rattle.std.proofs.lemmas.List.{append-nil, take_all}
+use Rattle.std.proofs.Common.{◌≡◌, ℕ, ◌<◌, List, [], ◌∷◌, ◌++◌, length, Option, Some, None, sym, ap, ◌∙◌, append_assoc, length-append, arith, inl, inr}
 use Rattle.std.specs.Prelude.{IfSome}
 use Rattle.layout_io.specs.Told.{Disk, Told, FilesTold, bytes_of}
 use Rattle.layout_io.specs.declared.stored.Stored.{Stored}
@@ -8,34 +7,17 @@ use Rattle.board_rules.specs.declared.design.Design.{Design}
 use Rattle.session_wire.specs.declared.steps.ScriptStep.{ScriptStep}
 use Rattle.dsn_lists.specs.declared.faults.DesignFault.{DesignFault}
 use Rattle.dsn_reader.specs.Design.{IsDesign, IsFirstFault}
-use Rattle.layout_server.specs.Outside.{SameFiles, IsFound, OnlyRead, ShortRead, ReadStop}
-use Rattle.layout_server.specs.Scripts.{IsScript, IsBad}
+use Rattle.whole_files.specs.Outside.{SameFiles, IsFound, OnlyRead, ReadStop}
+use Rattle.script_replay.specs.Scripts.{IsScript, IsBad}
 use Rattle.layout_server.specs.Inputs.{HasDesign, HasClean, HasFault, HasUnclean, IsClean, AreLeast, HasSteps, HasBadLine}
 use Rattle.layout_server.specs.Loads.{DesignCause, ScriptCause, CleanCause, DesignStop, ScriptStop, LoadStop}
-use Rattle.layout_server.specs.declared.stop.Stop.{Stop}
-use Rattle.layout_server.specs.declared.stop.Stop.TheVariants as stops
-use Rattle.layout_server.proofs.Asks.{asked_less, asked_after}
-use Rattle.layout_server.proofs.Tolds.{told_then}
-
--- all of the names were asked for, and memory ran out then
-pub short_of : (names : List (List ℕ)) (f g : FilesTold) → OnlyRead names f g → ShortRead names f g
-short_of names f g only = record { kept = only.kept; asked = (length names, only.asked ∙ ap (λ (x : List (List ℕ)). f.asked ++ x) (sym (take_all (length names) names (omega arith)))); reads = only.reads; writes = only.writes }
+use Rattle.whole_files.specs.declared.stop.Stop.{Stop}
+use Rattle.whole_files.specs.declared.stop.Stop.TheVariants as stops
+use Rattle.whole_files.proofs.Asks.{asked_less, asked_after}
+use Rattle.whole_files.proofs.Tolds.{told_then}
+use Rattle.whole_files.proofs.Founds.{short_of, found_long, found_whole}
 
 -- ---- one file
-
--- bytes that are not too many are all of the file's
-found_whole : (name bytes : List ℕ) (P : List ℕ → Type 0) (a b : Option Disk) → Told a b (IsFound name 67108864 bytes) → length bytes ≤ 67108864 → P bytes → IfSome a (λ d. (all : List ℕ) × (bytes_of d.files name ≡ Some all) × P all)
-found_whole name bytes P None b told short is = tt
-found_whole name bytes P (Some d) None told short is = absurd told
-found_whole name bytes P (Some d) (Some e) told short is =
-    let all : bytes ++ told.more ≡ bytes = ap (λ (x : List ℕ). bytes ++ x) (told.whole short) ∙ append-nil bytes in
-    (bytes, told.bytes_are ∙ ap Some all, is)
-
--- of too many bytes more may follow
-found_long : (name bytes : List ℕ) (P : List ℕ → Type 0) (a b : Option Disk) → Told a b (IsFound name 67108864 bytes) → ((more : List ℕ) → P (bytes ++ more)) → IfSome a (λ d. (all : List ℕ) × (bytes_of d.files name ≡ Some all) × P all)
-found_long name bytes P None b told is = tt
-found_long name bytes P (Some d) None told is = absurd told
-found_long name bytes P (Some d) (Some e) told is = (bytes ++ told.more, told.bytes_are, is told.more)
 
 pub found_design : (name bytes : List ℕ) (design : Design) (a b : Option Disk) → Told a b (IsFound name 67108864 bytes) → IsDesign bytes design → IfSome a (HasDesign name design)
 found_design name bytes design a b told is = found_whole name bytes (λ all. IsDesign all design) a b told is.short is

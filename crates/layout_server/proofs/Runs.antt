@@ -4,20 +4,21 @@ use Rattle.std.specs.Prelude.{IfSome, IfErr, OnOk, Result, Ok, Err}
 use Rattle.layout_io.specs.Causes.{Rose}
 use Rattle.layout_io.specs.Told.{Disk, Told, SinkTold, FilesTold, SameBut, IsCreated}
 use Rattle.layout_io.specs.declared.stored.Stored.{Stored}
-use Rattle.layout_server.specs.Words.{Asked, named}
-use Rattle.layout_server.specs.Outside.{SameFiles, OnlyRead, OnlyWrites, WroteFile, WroteSome}
-use Rattle.layout_server.specs.Puts.{IsPut, IsCut}
+use Rattle.layout_server.specs.Words.{named}
+use Rattle.whole_files.specs.Words.{Asked}
+use Rattle.whole_files.specs.Outside.{SameFiles, OnlyRead, OnlyWrites, WroteFile, WroteSome}
+use Rattle.whole_files.specs.Puts.{IsPut, IsCut}
 use Rattle.layout_server.specs.Inputs.{HasClean, HasSteps}
-use Rattle.layout_server.specs.Replays.{IsRunOf}
+use Rattle.script_replay.specs.Replays.{IsRunOf}
 use Rattle.layout_server.specs.Loads.{LoadStop}
 use Rattle.layout_server.specs.Stores.{MakeStop, TextsStop}
 use Rattle.layout_server.specs.Headline.{HasSession, HasRun, AsksAll, Replays, CutOutput, CutSession, ReplayStop}
 use Rattle.layout_server.specs.declared.load.Loaded.{Loaded}
-use Rattle.layout_server.specs.declared.stop.Stop.{Stop}
-use Rattle.layout_server.specs.declared.stop.Stop.TheVariants as stops
-use Rattle.layout_server.proofs.Asks.{asked_less, asked_after}
-use Rattle.layout_server.proofs.Tolds.{told_then, told_weaker}
-use Rattle.layout_server.proofs.Files.{made_then_given, made_empty}
+use Rattle.whole_files.specs.declared.stop.Stop.{Stop}
+use Rattle.whole_files.specs.declared.stop.Stop.TheVariants as stops
+use Rattle.whole_files.proofs.Asks.{asked_less, asked_after}
+use Rattle.whole_files.proofs.Tolds.{told_then, told_weaker}
+use Rattle.layout_server.proofs.Made.{made_then_given, made_empty}
 
 -- what was loaded, and how the files were asked for it
 pub record AreLoaded (design script : List ℕ) (l : Loaded) (f g : FilesTold) : Type 0 where

@@ -1,11 +1,11 @@
 -- Where the storing of two texts stops.
 use Rattle.std.proofs.Common.{ℕ, List, refl, inl, inr}
 use Rattle.layout_io.specs.Told.{SinkTold, FilesTold}
-use Rattle.layout_server.specs.Outside.{WriteStop}
-use Rattle.layout_server.specs.Puts.{IsPut, PutStop}
+use Rattle.whole_files.specs.Outside.{WriteStop}
+use Rattle.whole_files.specs.Puts.{IsPut, PutStop}
 use Rattle.layout_server.specs.Stores.{TextsStop}
-use Rattle.layout_server.specs.declared.stop.Stop.{Stop}
-use Rattle.layout_server.specs.declared.stop.Stop.TheVariants as stops
+use Rattle.whole_files.specs.declared.stop.Stop.{Stop}
+use Rattle.whole_files.specs.declared.stop.Stop.TheVariants as stops
 
 -- in the output: the files stay
 pub output_stops : (stop : Stop) (output session : List ℕ) (file : ℕ) (f : FilesTold) (o p : SinkTold) → PutStop output o p stop → TextsStop output session file f f o p stop

@@ -2,12 +2,12 @@
 use Rattle.std.specs.Prelude.{◌≡◌, ◌⊎◌, ℕ, List, [], ◌∷◌, ◌++◌, length, IfSome, codes, decimal}
 use Rattle.layout_io.specs.Told.{SinkTold, FilesTold}
 use Rattle.board_rules.specs.declared.design.Design.{Design}
-use Rattle.layout_server.specs.Outside.{OnlyRead, ShortRead}
-use Rattle.layout_server.specs.Puts.{IsPut, IsCut, MetFault, MetShortage}
+use Rattle.whole_files.specs.Outside.{OnlyRead, ShortRead}
+use Rattle.whole_files.specs.Puts.{IsPut, IsCut, MetFault, MetShortage}
 use Rattle.layout_server.specs.Inputs.{HasClean}
 use Rattle.layout_server.specs.Loads.{DesignStop}
-use Rattle.layout_server.specs.declared.stop.Stop.{Stop}
-use Rattle.layout_server.specs.declared.stop.Stop.TheVariants as stops
+use Rattle.whole_files.specs.declared.stop.Stop.{Stop}
+use Rattle.whole_files.specs.declared.stop.Stop.TheVariants as stops
 
 -- the line that tells how many items a clean design has
 abbrev pub clean_line : ℕ → List ℕ

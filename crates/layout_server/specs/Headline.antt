@@ -4,14 +4,15 @@ use Rattle.layout_io.specs.Causes.{Rose}
 use Rattle.layout_io.specs.Told.{Disk, Told, SinkTold, FilesTold, SameBut, bytes_of}
 use Rattle.board_rules.specs.declared.design.Design.{Design}
 use Rattle.session_wire.specs.declared.steps.ScriptStep.{ScriptStep}
-use Rattle.layout_server.specs.Words.{Names, Asked, three}
-use Rattle.layout_server.specs.Outside.{SameFiles}
-use Rattle.layout_server.specs.Puts.{IsPut, IsCut, MetFault, MetShortage}
-use Rattle.layout_server.specs.Replays.{IsRunOf}
+use Rattle.layout_server.specs.Words.{Names, three}
+use Rattle.whole_files.specs.Words.{Asked}
+use Rattle.whole_files.specs.Outside.{SameFiles}
+use Rattle.whole_files.specs.Puts.{IsPut, IsCut, MetFault, MetShortage}
+use Rattle.script_replay.specs.Replays.{IsRunOf}
 use Rattle.layout_server.specs.Inputs.{HasInputs}
 use Rattle.layout_server.specs.Loads.{LoadStop}
-use Rattle.layout_server.specs.declared.stop.Stop.{Stop}
-use Rattle.layout_server.specs.declared.stop.Stop.TheVariants as stops
+use Rattle.whole_files.specs.declared.stop.Stop.{Stop}
+use Rattle.whole_files.specs.declared.stop.Stop.TheVariants as stops
 
 -- the file under the name has these bytes, and other files stayed
 abbrev pub HasSession : List ℕ → List ℕ → Disk → Disk → Type 0

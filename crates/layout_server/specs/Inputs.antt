@@ -8,7 +8,7 @@ use Rattle.session_wire.specs.declared.steps.ScriptStep.{ScriptStep}
 use Rattle.dsn_lists.specs.declared.faults.DesignFault.{DesignFault}
 use Rattle.dsn_reader.specs.Design.{IsDesign, IsFirstFault}
 use Rattle.layout_server.specs.Words.{Names}
-use Rattle.layout_server.specs.Scripts.{IsScript, IsBad}
+use Rattle.script_replay.specs.Scripts.{IsScript, IsBad}
 
 -- the file under the name states this design
 abbrev pub HasDesign : List ℕ → Design → Disk → Type 0

@@ -1,14 +1,6 @@
 pub mod Words
-pub mod Outside
-pub mod Puts
-pub mod Scripts
-pub mod Lines
-pub mod Faults
 pub mod Inputs
 pub mod Loads
-pub mod Stops
-pub mod Masters
-pub mod Replays
 pub mod Stores
 pub mod Headline
 pub mod Checks

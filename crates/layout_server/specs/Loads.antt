@@ -1,17 +1,14 @@
 -- Why the design or the script was not loaded, and what is known of what was.
-use Rattle.std.specs.Prelude.{◌⊎◌, ℕ, ◌≤◌, List, [], ◌∷◌, IfSome}
-use Rattle.std.specs.List.{AllByRecursion}
-use Rattle.row_lists.specs.Limits.{weight_limit}
+use Rattle.std.specs.Prelude.{◌⊎◌, ℕ, List, [], ◌∷◌, IfSome}
 use Rattle.layout_io.specs.Told.{FilesTold}
 use Rattle.board_rules.specs.declared.design.Design.{Design}
 use Rattle.dsn_reader.specs.Design.{IsFirstFault}
-use Rattle.session_wire.specs.Steps.{IsStep}
-use Rattle.layout_server.specs.Outside.{OnlyRead, FailedRead, ShortRead}
-use Rattle.layout_server.specs.Scripts.{IsBad, events_of_steps, weight_of_events}
-use Rattle.layout_server.specs.Inputs.{AreLeast, HasClean, HasUnclean, HasFault, HasBadLine}
+use Rattle.whole_files.specs.Outside.{OnlyRead, FailedRead, ShortRead}
+use Rattle.script_replay.specs.Scripts.{IsBad, AreDue}
+use Rattle.layout_server.specs.Inputs.{IsClean, AreLeast, HasClean, HasUnclean, HasFault, HasBadLine}
 use Rattle.layout_server.specs.declared.load.Loaded.{Loaded}
-use Rattle.layout_server.specs.declared.stop.Stop.{Stop}
-use Rattle.layout_server.specs.declared.stop.Stop.TheVariants as stops
+use Rattle.whole_files.specs.declared.stop.Stop.{Stop}
+use Rattle.whole_files.specs.declared.stop.Stop.TheVariants as stops
 
 -- why bytes give no design
 abbrev pub DesignCause : List ℕ → Stop → Type 0
@@ -58,7 +55,7 @@ LoadStop design script f g (stops.Unclean a b) = IfSome f.disk (HasUnclean desig
 LoadStop design script f g stops.Memory = ShortRead (design ∷ script ∷ []) f g
 LoadStop design script f g _ = ⊥
 
--- what was loaded: the steps fit into a history
+-- what was loaded: the steps each come from a client who hasn't left, and the design is clean
 pub record IsLoaded (l : Loaded) : Type 0 where
-  pub formed : AllByRecursion IsStep l.steps
-  pub light : weight_of_events (events_of_steps l.steps) ≤ weight_limit
+  pub due : AreDue [] l.steps
+  pub clean : IsClean l.design

@@ -2,10 +2,10 @@
 use Rattle.std.specs.Prelude.{◌≡◌, ◌⊎◌, ℕ, List}
 use Rattle.layout_io.specs.Causes.{Rose}
 use Rattle.layout_io.specs.Told.{Told, SinkTold, FilesTold}
-use Rattle.layout_server.specs.Outside.{SameFiles, WroteSome}
-use Rattle.layout_server.specs.Puts.{IsPut, IsCut, MetFault, MetShortage}
-use Rattle.layout_server.specs.declared.stop.Stop.{Stop}
-use Rattle.layout_server.specs.declared.stop.Stop.TheVariants as stops
+use Rattle.whole_files.specs.Outside.{SameFiles, WroteSome}
+use Rattle.whole_files.specs.Puts.{IsPut, IsCut, MetFault, MetShortage}
+use Rattle.whole_files.specs.declared.stop.Stop.{Stop}
+use Rattle.whole_files.specs.declared.stop.Stop.TheVariants as stops
 
 -- why the session file was not made: no file changed
 abbrev pub MakeStop : FilesTold → FilesTold → Stop → Type 0

@@ -1,18 +1,7 @@
--- The words of the command line.
-use Rattle.std.specs.Prelude.{◌≡◌, ℕ, List, [], ◌∷◌, ◌++◌, length, take, drop, codes, slice_index_or, string_bytes, map}
-use Rattle.std.specs.Prelude.{String}
-use Rattle.std.specs.declared.alloc.Global.{Global}
-
--- the texts of the words
-abbrev pub texts : List (String Global) → List (List ℕ)
-texts words = map string_bytes words
-
-abbrev pub text_at : List (List ℕ) → ℕ → List ℕ
-text_at words i = slice_index_or words i []
-
--- the words behind the command
-abbrev pub names_behind : List (List ℕ) → List (List ℕ)
-names_behind words = drop 1 words
+-- The forms of the command line.
+-- Cited by `run`
+use Rattle.std.specs.Prelude.{◌≡◌, ℕ, List, [], ◌∷◌, length, codes}
+use Rattle.whole_files.specs.Words.{text_at}
 
 -- the words are `check` and a name
 pub record IsCheck (words : List (List ℕ)) : Type 0 where
@@ -40,7 +29,3 @@ names_in words = named (text_at words 1) (text_at words 2) (text_at words 3)
 -- the names in the order in which the files are asked for
 abbrev pub three : Names → List (List ℕ)
 three names = names.design ∷ names.script ∷ names.session ∷ []
-
--- some first ones of the names were asked for
-abbrev pub Asked : List (List ℕ) → List (List ℕ) → List (List ℕ) → Type 0
-Asked names old new = (k : ℕ) × (new ≡ old ++ take k names)

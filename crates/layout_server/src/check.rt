@@ -1,18 +1,17 @@
 //! The loaded items of a design are tested.
 ghost use Rattle.std.specs.Prelude.{◌≡◌, ◌∷◌, [], IfOk, OnOk, IfErr, IfSome};
-ghost use Rattle.layout_server.specs.Outside.{OnlyRead};
+ghost use Rattle.whole_files.specs.Outside.{OnlyRead};
 ghost use Rattle.layout_server.specs.Inputs.{HasClean, IsClean};
 ghost use Rattle.layout_server.specs.Loads.{CleanCause, DesignStop};
 ghost use Rattle.layout_server.specs.Checks.{Checks, CheckStop, clean_line};
 
 use crate::load::load_design;
-use crate::outside::put_out;
-use crate::stop::Stop;
 use board_core::clean;
 use board_rules::Design;
 use itoa::Buffer;
 use layout_io::{Bytes, Files, Sink};
 use std::alloc::{AllocError, Global};
+use whole_files::{Stop, put_out};
 
 // Stops where two loaded items are too near.
 fn test_clean(design: &Design) -> Result<(), Stop>
@@ -29,6 +28,7 @@ fn test_clean(design: &Design) -> Result<(), Stop>
 #[tactic(auto, using(crate::proofs::Loads::clean_found, crate::proofs::Loads::unclean_stop))]
 pub fn load_clean<F: Files>(alloc: Global, files: &mut F, name: &str) -> Result<Design, Stop>
     ensures ok { IfOk result (λ design. IfSome (F.told files.old).disk (HasClean name.now design)) }
+    ensures clean { IfOk result IsClean }
     ensures only { OnOk result (OnlyRead (name.now ∷ []) (F.told files.old) (F.told files.new)) }
     ensures err { IfErr result (DesignStop name.now (F.told files.old) (F.told files.new)) }
 {

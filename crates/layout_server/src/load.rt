@@ -1,21 +1,20 @@
 //! The design and the script are read.
 ghost use Rattle.std.specs.Prelude.{◌∷◌, [], List, ℕ, IfOk, OnOk, IfErr, IfSome};
 ghost use Rattle.dsn_reader.specs.Design.{IsDesign};
-ghost use Rattle.layout_server.specs.Outside.{OnlyRead};
-ghost use Rattle.layout_server.specs.Scripts.{IsScript};
+ghost use Rattle.whole_files.specs.Outside.{OnlyRead};
+ghost use Rattle.script_replay.specs.Scripts.{IsScript};
 ghost use Rattle.layout_server.specs.Inputs.{HasDesign, HasClean, HasSteps};
 ghost use Rattle.layout_server.specs.Loads.{DesignCause, ScriptCause, DesignStop, ScriptStop, LoadStop, IsLoaded};
 
 use crate::check::load_clean;
-use crate::outside::read_file;
-use crate::script::{ScriptFault, read_script};
-use crate::stop::Stop;
 use board_rules::Design;
 use dsn_reader::{ReadWhy, read_design};
 use layout_io::{Bytes, Files};
 use row_lists::TEXT_LIMIT_BYTES;
+use script_replay::{ScriptFault, read_script};
 use session_wire::ScriptSteps;
 use std::alloc::Global;
+use whole_files::{Stop, read_file};
 
 /// The design and the script's steps.
 #[derive(Debug, Drop)]
@@ -72,7 +71,7 @@ fn load_script<F: Files>(alloc: Global, files: &mut F, name: &str) -> Result<Scr
 }
 
 /// Reads the design and the script.
-#[tactic(auto, using(crate::proofs::Loads::both_inputs, crate::proofs::Loads::both_read, crate::proofs::Loads::script_behind, crate::proofs::Loads::design_first, crate::proofs::Scripts::loaded))]
+#[tactic(auto, using(crate::proofs::Loads::both_inputs, crate::proofs::Loads::both_read, crate::proofs::Loads::script_behind, crate::proofs::Loads::design_first))]
 pub fn load<F: Files>(
     alloc: Global,
     files: &mut F,

@@ -2,36 +2,19 @@
 #![tactic(auto)]
 
 mod check;
-mod laws;
 mod load;
-mod master;
-mod outside;
 mod replay;
 mod run;
-mod script;
-mod stop;
 mod store;
-mod tell;
 #[cfg(test)]
 mod tests;
-mod texts;
 
 use layout_io::{HostFiles, HostSink};
 use run::run;
+use std::io;
 use std::process::ExitCode;
 use std::rt::HostRuntime;
-use std::{env, io};
-use stop::Stop;
-use tell::tell_stop;
-
-// The words, without the program's own.
-fn words_of(rt: &HostRuntime) -> io::Result<Vec<String>> {
-    let mut words = Vec::new(rt.alloc());
-    for word in env::args(rt)?.skip(1) {
-        words.push(word)?;
-    }
-    Ok(words)
-}
+use whole_files::{Stop, tell_stop, words_of};
 
 fn main(rt: HostRuntime) -> ExitCode {
     let mut out = HostSink::new(&rt);

@@ -2,18 +2,18 @@
 ghost use Rattle.std.specs.Prelude.{◌≡◌, ◌≢◌, ◌≤◌, ◌⊎◌, ◌↔◌, List, IsTrue, OnOk, IfErr, codes, length};
 ghost use Rattle.board_rules.specs.declared.design.Design.{Design};
 ghost use Rattle.session_wire.specs.declared.steps.ScriptStep.{ScriptStep};
-ghost use Rattle.layout_server.specs.Words.{texts, text_at, names_in, names_behind, IsReplay, IsCheck, Asked};
+ghost use Rattle.layout_server.specs.Words.{names_in, IsReplay, IsCheck};
+ghost use Rattle.whole_files.specs.Words.{texts, text_at, names_behind, Asked};
 ghost use Rattle.layout_server.specs.Inputs.{HasToldClean, HasToldInputs};
 ghost use Rattle.layout_server.specs.Checks.{Checks, CheckStop};
-ghost use Rattle.layout_server.specs.Stops.{Stops, Tells, IsStatus, HasCounts, NoFault};
+ghost use Rattle.whole_files.specs.Stops.{Stops, Tells, IsStatus, HasCounts, NoFault};
 ghost use Rattle.layout_server.specs.Headline.{Replays, ReplayStop};
 
 use crate::check::check;
 use crate::replay::replay;
-use crate::stop::Stop;
-use crate::tell::{tell, tell_stop};
 use layout_io::{Files, Sink};
 use std::alloc::Global;
+use whole_files::{Stop, tell, tell_stop};
 
 fn is_replay(words: &[String]) -> bool
     ensures test { IsTrue result ↔ IsReplay (texts words.now) }
@@ -61,7 +61,7 @@ fn check_words<F: Files, O: Sink>(
 }
 
 // As `run`, where the words are those of `replay`.
-#[tactic(auto, using(crate::proofs::Ended::never_0))]
+#[tactic(auto, using(whole_files::proofs::Statuses::never_0))]
 fn run_replay<F: Files, O: Sink>(alloc: Global, words: &[String], files: &mut F, out: &mut O) -> u8
     requires { length words.now ≡ 4 }
     ensures ok { result ≡ 0 → Replays (names_in (texts words.now)) (F.told files.old) (F.told files.new) (O.told out.old) (O.told out.new) }
@@ -74,7 +74,7 @@ fn run_replay<F: Files, O: Sink>(alloc: Global, words: &[String], files: &mut F,
 }
 
 // As `run`, where the words are those of `check`.
-#[tactic(auto, using(crate::proofs::Ended::never_0))]
+#[tactic(auto, using(whole_files::proofs::Statuses::never_0))]
 fn run_check<F: Files, O: Sink>(alloc: Global, words: &[String], files: &mut F, out: &mut O) -> u8
     requires { length words.now ≡ 2 }
     ensures ok { result ≡ 0 → Checks (text_at (texts words.now) 1) (F.told files.old) (F.told files.new) (O.told out.old) (O.told out.new) }

@@ -1,16 +1,15 @@
 //! The session file is made, and a run's texts are stored.
 ghost use Rattle.std.specs.Prelude.{◌≡◌, ◌∷◌, [], IfOk, OnOk, IfErr};
 ghost use Rattle.layout_io.specs.Told.{Told, IsCreated};
-ghost use Rattle.layout_server.specs.Words.{Asked};
-ghost use Rattle.layout_server.specs.Outside.{WroteFile, WriteStop, OnlyWrites};
-ghost use Rattle.layout_server.specs.Puts.{IsPut};
+ghost use Rattle.whole_files.specs.Words.{Asked};
+ghost use Rattle.whole_files.specs.Outside.{WroteFile, WriteStop, OnlyWrites};
+ghost use Rattle.whole_files.specs.Puts.{IsPut};
 ghost use Rattle.layout_server.specs.Stores.{MakeStop, TextsStop};
 
-use crate::outside::{put_file, put_out};
-use crate::stop::Stop;
-use crate::texts::Texts;
 use layout_io::{Files, IoFault, Sink};
+use script_replay::Texts;
 use ses_writer::SesPieces;
+use whole_files::{Stop, put_file, put_out};
 
 /// Makes the session file, which is then empty.
 pub fn make_file<F: Files>(files: &mut F, session: &str) -> Result<u32, Stop>

@@ -1,11 +1,10 @@
 use crate::run::run;
-use crate::stop::Stop;
-use crate::tell::tell_stop;
 use board_items::ItemId;
 use dsn_reader::{DesignFault, DesignKind};
 use layout_io::{MemFiles, MemSink};
 use std::alloc::{AllocError, Global};
 use std::test::Fail;
+use whole_files::{Stop, tell_stop};
 
 const DESIGN: &str =
     "(pcb s.dsn (unit um) (structure (layer L1 (type signal)) (rule (width 100) (clearance 200))) (network (net A) (net B) (net C)))";
@@ -13,8 +12,6 @@ const DESIGN: &str =
 // Two loaded wires of two nets that cross.
 const CROSSED: &str =
     "(pcb s.dsn (unit um) (structure (layer L1 (type signal)) (rule (width 100) (clearance 200))) (network (net A) (net B)) (wiring (wire (path L1 200 0 0 1000 1000) (net A)) (wire (path L1 200 0 1000 1000 0) (net B))))";
-
-const FIRST: &str = "do 1 edit 0 1 wire 0 0 250000 2 0 0 1000000 0\n";
 
 const UNENDED: &str = "do 1 edit 0 1 wire 0 0 250000 2 0 0 1000000 0";
 
@@ -26,6 +23,11 @@ const TOO_NEAR_OUTPUT: &str = "1 ok 1
 2 no clash 1 1
 journal 1
 entry 1 1 edit 0 1 wire 0 0 250000 2 0 0 1000000 0
+";
+
+const LEFT_OUTPUT: &str = "1 left 1
+journal 1
+entry 1 1 leave
 ";
 
 const SCRIPT: &str = "do 1 edit 0 1 wire 0 0 250000 2 0 0 1000000 0
@@ -146,6 +148,21 @@ fn the_first_cause_decides(rt: HostRuntime) -> Result<(), Fail> {
             "script 1\n",
         ),
         ("an unended line", DESIGN, Some(UNENDED), 5, "script 1\n"),
+        ("a leave", DESIGN, Some("leave 1\n"), 0, LEFT_OUTPUT),
+        (
+            "two leaves of one client",
+            DESIGN,
+            Some("leave 1\nleave 1\n"),
+            5,
+            "script 2\n",
+        ),
+        (
+            "a request behind a leave",
+            DESIGN,
+            Some("leave 1\ndo 2 edit 0 0\ndo 1 edit 0 0\n"),
+            5,
+            "script 3\n",
+        ),
         ("two near and no script", CROSSED, None, 6, "unclean 1 2\n"),
     ];
     for (name, design, script, status, line) in rows {
@@ -175,28 +192,6 @@ fn other_words_are_told_the_usage(rt: HostRuntime) -> Result<(), Fail> {
         let status = status_of(alloc, words, &mut files, &mut out)?;
         assert_eq!(rt; status, 1, "{name}");
         assert_eq!(rt; out.written(), b"usage\n".as_slice(), "{name}");
-    }
-    Ok(())
-}
-
-// A script of one line, repeated: 500 lines are read, and the 501st is a bad line.
-#[test]
-fn line_501_is_a_bad_line(rt: HostRuntime) -> Result<(), Fail> {
-    let alloc = rt.alloc();
-    for (lines, status) in [(500, 0), (501, 5)] {
-        let mut script = String::new(alloc);
-        for _ in 0..lines {
-            script.push_str(FIRST)?;
-        }
-        let mut files = files_of(alloc, DESIGN, Some(script.as_str()))?;
-        let mut out = MemSink::new(alloc);
-        let got = status_of(alloc, &REPLAY, &mut files, &mut out)?;
-        assert_eq!(rt; got, status, "{lines} lines");
-        assert_eq!(rt;
-            out.written() == b"script 501\n".as_slice(),
-            status == 5,
-            "{lines} lines"
-        );
     }
     Ok(())
 }

@@ -1,6 +1,7 @@
 use Rattle.std.proofs.Common.{◌≡◌, sym, ◌∙◌, arith}
-use Rattle.layout_server.specs.Words.{text_at, texts}
-use Rattle.layout_server.proofs.Words.{word_text, replay_test}
+use Rattle.whole_files.specs.Words.{text_at, texts}
+use Rattle.whole_files.proofs.Words.{word_text}
+use Rattle.layout_server.proofs.Words.{replay_test}
 use Rattle.layout_server.proofs.run.is_replay.Goals as goal
 
 pub returns-then-words-eq4-clause-test : goal.returns-then-words-eq4-clause-test

@@ -1,8 +1,10 @@
 use Rattle.std.proofs.Common.{◌≡◌, sym, subst, ◌∙◌, arith}
 use Rattle.std.specs.Prelude.{IfErr}
-use Rattle.layout_server.specs.Words.{Names, text_at, texts}
+use Rattle.layout_server.specs.Words.{Names}
+use Rattle.whole_files.specs.Words.{text_at, texts}
 use Rattle.layout_server.specs.Headline.{ReplayStop}
-use Rattle.layout_server.proofs.Words.{word_text, same_names}
+use Rattle.whole_files.proofs.Words.{word_text}
+use Rattle.layout_server.proofs.Words.{same_names}
 use Rattle.layout_server.proofs.run.replay_words.Goals as goal
 
 pub returns-clause-err : goal.returns-clause-err

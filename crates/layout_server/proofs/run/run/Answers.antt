@@ -1,8 +1,11 @@
-use Rattle.layout_server.specs.Words.{texts, text_at, names_in}
+use Rattle.layout_server.specs.Words.{names_in}
+use Rattle.whole_files.specs.Words.{texts, text_at}
 use Rattle.layout_server.specs.Headline.{ReplayStop}
 use Rattle.layout_server.specs.Checks.{CheckStop}
-use Rattle.layout_server.proofs.Words.{asked_three, asked_one}
-use Rattle.layout_server.proofs.Ended.{never_1, is_status, replay_counts, replay_asked, replay_complete, usage_counts}
+use Rattle.layout_server.proofs.Words.{asked_three}
+use Rattle.whole_files.proofs.Words.{asked_one}
+use Rattle.whole_files.proofs.Statuses.{never_1, is_status, usage_counts}
+use Rattle.layout_server.proofs.Ended.{replay_counts, replay_asked, replay_complete}
 use Rattle.layout_server.proofs.CheckEnded.{check_counts, check_asked, check_complete}
 use Rattle.layout_server.proofs.run.run.Goals as goal
 

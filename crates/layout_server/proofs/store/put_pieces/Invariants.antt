@@ -1,5 +1,5 @@
 use Rattle.std.proofs.Common.{◌≡◌, length}
-use Rattle.layout_server.proofs.Files.{Gave}
+use Rattle.whole_files.proofs.Files.{Gave}
 use Rattle.layout_server.proofs.store.put_pieces.Given as goal
 
 -- The file was given what of the text isn't left.

@@ -1,5 +1,0 @@
-use Rattle.layout_server.proofs.Steps.{not_bad}
-use Rattle.layout_server.proofs.laws.a_script_is_not_bad.Goals as goal
-
-pub returns : goal.returns
-returns c = not_bad

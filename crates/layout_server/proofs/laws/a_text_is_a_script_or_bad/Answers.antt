@@ -1,5 +1,0 @@
-use Rattle.layout_server.proofs.Steps.{not_neither}
-use Rattle.layout_server.proofs.laws.a_text_is_a_script_or_bad.Goals as goal
-
-pub returns : goal.returns
-returns c = not_neither

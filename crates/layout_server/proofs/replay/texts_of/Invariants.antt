@@ -1,4 +1,0 @@
-use Rattle.layout_server.proofs.replay.texts_of.Given as goal
-
-abbrev pub ghosts-answer_all : goal.ghosts-answer_all
-ghosts-answer_all a = record { name = a.blank.name; parts = a.blank.parts }

@@ -1,0 +1,9 @@
+pub mod Breaks
+pub mod Dues
+pub mod Journals
+pub mod Lefts
+pub mod Once
+pub mod Replayed
+pub mod Serving
+pub mod Steps
+pub mod Unique

@@ -1,0 +1,4 @@
+pub mod Scripts
+pub mod Lines
+pub mod Replays
+pub mod Masters
