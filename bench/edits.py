@@ -2,7 +2,7 @@
 """Measures edits: how many edits of one wire a second are answered beside 1,000 and 10,000 live items.
 Give it no words, or the path of the program; without one build with `rt run` first.
 
-A script has at most 500 lines, so the live items come in edits of up to 64 wires. The time of the
+The live items come in edits of up to 64 wires. The time of the
 edits that are measured is the difference of two runs, with them and without. Each run is made five
 times by turns, and the median counts. The live items are of one net and what is measured adds to the
 other, so that each wire is held against every live item. Where `apply_bench` is built, the time of
