@@ -13,7 +13,7 @@ import statistics
 import sys
 import tempfile
 
-from reading import SERVER, TOP, timed
+from reading import SERVER, TOP, replayed, timed
 
 APPLY = os.path.join(TOP, "crates/apply_bench/out/apply_bench")
 
@@ -60,13 +60,7 @@ def moved(count):
 
 def run(program, folder, lines):
     """Processor seconds of one run, in which each line has to be accepted."""
-    script = os.path.join(folder, "e.script")
-    with open(script, "w") as file:
-        file.writelines(line + "\n" for line in lines)
-    seconds, _, status, output = timed([program, "replay", os.path.join(folder, "e.dsn"), script, os.path.join(folder, "e.ses")])
-    accepted = sum(b" ok " in line for line in output.split(b"\n"))
-    assert status == 0 and accepted == len(lines), f"status {status}, {accepted} of {len(lines)} accepted"
-    return seconds
+    return replayed(program, os.path.join(folder, "e.dsn"), lines)[0]
 
 
 KINDS = (

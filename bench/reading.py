@@ -26,6 +26,17 @@ def timed(words, env=None):
     return usage.ru_utime + usage.ru_stime, usage.ru_maxrss / 1024, os.waitstatus_to_exitcode(status), output
 
 
+def replayed(program, design, lines):
+    """Processor seconds and MB of one run of these lines on a design, in which each line has to be accepted."""
+    script, session = design + ".script", design + ".ses"
+    with open(script, "w", encoding="ascii") as file:
+        file.writelines(line + "\n" for line in lines)
+    seconds, most, status, output = timed([program, "replay", design, script, session])
+    accepted = output.split(b"journal ")[0].count(b" ok ")
+    assert status == 0 and accepted == len(lines), f"status {status}, {accepted} of {len(lines)} accepted"
+    return seconds, most
+
+
 def write_times(file, piece, times):
     """Writes a piece so many times, in blocks."""
     block = max(1, (1 << 16) // len(piece))

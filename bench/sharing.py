@@ -10,7 +10,7 @@ import os
 import sys
 import tempfile
 
-from reading import SERVER, timed
+from reading import SERVER, replayed
 
 DESIGN = (
     b"(pcb s.dsn (unit um) (structure (layer L1 (type signal)) (rule (width 100) (clearance 200)))"
@@ -98,19 +98,6 @@ def script(count):
     return board.lines[: start + count], start
 
 
-def run(program, folder, lines):
-    """Processor seconds and MB of one run, in which each line has to be accepted."""
-    names = [os.path.join(folder, name) for name in ("board.dsn", "moves.script", "out.ses")]
-    with open(names[0], "wb") as file:
-        file.write(DESIGN)
-    with open(names[1], "w", encoding="ascii") as file:
-        file.writelines(line + "\n" for line in lines)
-    seconds, memory, status, output = timed([program, "replay", *names])
-    accepted = output.split(b"journal ")[0].count(b" ok ")
-    assert status == 0 and accepted == len(lines), f"status {status}, {accepted} of {len(lines)} accepted"
-    return seconds, memory
-
-
 def main():
     program = sys.argv[1] if len(sys.argv) > 1 else SERVER
     if not os.path.exists(program):
@@ -119,10 +106,13 @@ def main():
     load = os.getloadavg()[0]
     print(f"{os.cpu_count()} processors, load {load:.1f}; requests, seconds of them, a second, MB")
     with tempfile.TemporaryDirectory() as folder:
-        before, _ = run(program, folder, filled().lines)
+        design = os.path.join(folder, "board.dsn")
+        with open(design, "wb") as file:
+            file.write(DESIGN)
+        before, _ = replayed(program, design, filled().lines)
         for count in COUNTS:
             lines, _ = script(count)
-            seconds, memory = run(program, folder, lines)
+            seconds, memory = replayed(program, design, lines)
             print(f"{count:8} {seconds - before:8.2f} {count / (seconds - before):9.0f} {memory:8.1f}")
     return 0
 
