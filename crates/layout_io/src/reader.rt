@@ -16,6 +16,15 @@ pub(crate) struct Reader {
     at: usize,
 }
 
+impl Reader {
+    // A reader of these bytes, from their front.
+    pub(crate) fn new(bytes: Bytes) -> Reader
+        ensures { rest_of result ≡ bytes }
+    {
+        Reader { bytes, at: 0 }
+    }
+}
+
 // A reader of the file under the name, where there is one.
 pub(crate) fn reader_of(files: &[Stored], name: &[u8]) -> Result<Option<Reader>, AllocError>
     ensures { IfOk result (λ o. MatchOption o (bytes_of files.now name.now ≡ None) (λ r. bytes_of files.now name.now ≡ Some (rest_of r))) }
@@ -56,10 +65,21 @@ pub(crate) fn read_on(reader: &mut Reader, into: &mut [u8]) -> usize
     ensures taken { rest_of reader.old ≡ take result into.new ++ rest_of reader.new }
     ensures end { result ≡ 0 → 0 < length into.new → rest_of reader.old ≡ [] }
 {
+    let most = into.len();
+    read_up_to(reader, into, most)
+}
+
+// Reads on into the front of the room, at most so many bytes.
+pub(crate) fn read_up_to(reader: &mut Reader, into: &mut [u8], most: usize) -> usize
+    ensures bound { result ≤ length into.new }
+    ensures count { result ≡ min (min (length into.new) most) (length (rest_of reader.old)) }
+    ensures taken { rest_of reader.old ≡ take result into.new ++ rest_of reader.new }
+    ensures end { result ≡ 0 → 0 < length into.new → 0 < most → rest_of reader.old ≡ [] }
+{
     let bytes = reader.bytes.as_slice();
     let start = reader.at.min(bytes.len());
     let (_, rest) = bytes.split_at(start);
-    let count = rest.len().min(into.len());
+    let count = rest.len().min(into.len()).min(most);
     let (front, _) = rest.split_at(count);
     into[..count].copy_from_slice(front);
     reader.at = start + count;

@@ -1,8 +1,12 @@
-//! Tables over pieces and failing calls, and one run over the files of the machine.
+//! Tables over pieces and failing calls, one run over the files of the machine, and one over its sockets.
 ghost use Rattle.std.specs.Prelude.{◌<◌};
 
-use crate::{Files, HostFiles, HostSink, IoFault, MemFiles, MemSink, Sink};
+use crate::{
+    Bytes, Dial, Door, Files, Gate, HostFiles, HostSink, IoFault, Link, MemDial, MemDoor, MemFiles,
+    MemLink, MemSink, OpenGate, Sink, TcpDial, TcpDoor,
+};
 use std::alloc::Global;
+use std::net::TcpListener;
 use std::test::Fail;
 
 // The values of each table are worked by hand.
@@ -145,5 +149,135 @@ fn a_file_of_the_machine_is_written_and_read(rt: HostRuntime) -> Result<(), Fail
         9,
         "a line to the standard output"
     );
+    Ok(())
+}
+
+// A link over which one line comes, and a read and a write of which fail.
+fn line_link(alloc: Global, read: u32, write: u32) -> Result<MemLink, Fail> {
+    let mut link = MemLink::new(alloc, Bytes::from_slice(alloc, b"bye\n")?);
+    link.fail_read(read)?;
+    link.fail_write(write)?;
+    Ok(link)
+}
+
+// How many bytes two reads give and a write takes.
+fn three_calls(link: &mut MemLink) -> Result<(usize, usize, usize), IoFault> {
+    let first = link.read(&mut [0u8; 8])?;
+    let sent = link.write(b"hello")?;
+    let second = link.read(&mut [0u8; 8])?;
+    Ok((first, sent, second))
+}
+
+#[test]
+fn a_link_in_memory_goes_by_pieces_and_fails_where_listed(rt: HostRuntime) -> Result<(), Fail> {
+    let rows = [
+        (1, 9, 9, Ok((1, 1, 1)), "h"),
+        (3, 9, 9, Ok((3, 3, 1)), "hel"),
+        (4, 9, 9, Ok((4, 4, 0)), "hell"),
+        (5, 9, 9, Ok((4, 5, 0)), "hello"),
+        (5, 1, 9, Err(IoFault::Failed), ""),
+        (5, 9, 1, Err(IoFault::Failed), ""),
+        (5, 2, 9, Err(IoFault::Failed), "hello"),
+    ];
+    for (most, read, write, want, sent) in rows {
+        assert!(rt; most > 0, "a piece of {most}");
+        let mut link = line_link(rt.alloc(), read, write)?;
+        link.set_piece(most);
+        assert_eq!(rt;
+            three_calls(&mut link),
+            want,
+            "pieces of {most}, read {read} and write {write} fail"
+        );
+        assert_eq!(rt;
+            link.written(),
+            sent.as_bytes(),
+            "written by pieces of {most}, read {read} and write {write} fail"
+        );
+    }
+    Ok(())
+}
+
+// What the first read of the dialled link gives.
+fn dialled(alloc: Global, fails: bool) -> Result<Result<usize, IoFault>, Fail> {
+    let link = MemLink::new(alloc, Bytes::from_slice(alloc, b"bye\n")?);
+    let mut dial = MemDial::new(alloc, link);
+    if fails {
+        dial.fail_connect();
+    }
+    match dial.connect("far:1") {
+        Ok(mut link) => Ok(link.read(&mut [0u8; 8])),
+        Err(e) => Ok(Err(e)),
+    }
+}
+
+// What the first reads of the links give that come at the door's first two accepts.
+fn two_accepts(
+    alloc: Global,
+    accept: u32,
+) -> Result<(Result<usize, IoFault>, Result<usize, IoFault>), Fail> {
+    let mut links = Vec::new(alloc);
+    links.push(MemLink::new(alloc, Bytes::from_slice(alloc, b"bye\n")?))?;
+    let mut door = MemDoor::new(alloc, links);
+    door.fail_accept(accept)?;
+    door.bind("near:1")?;
+    let first = match door.accept() {
+        Ok(mut link) => link.read(&mut [0u8; 8]),
+        Err(e) => Err(e),
+    };
+    let second = match door.accept() {
+        Ok(mut link) => link.read(&mut [0u8; 8]),
+        Err(e) => Err(e),
+    };
+    Ok((first, second))
+}
+
+#[test]
+fn links_come_by_a_dial_and_at_a_door_in_memory(rt: HostRuntime) -> Result<(), Fail> {
+    for (fails, want) in [(false, Ok(4)), (true, Err(IoFault::Failed))] {
+        assert_eq!(rt;
+            dialled(rt.alloc(), fails)?,
+            want,
+            "a dial whose connect fails: {fails}"
+        );
+    }
+    let rows = [
+        (9, (Ok(4), Err(IoFault::Failed))),
+        (1, (Err(IoFault::Failed), Ok(4))),
+        (2, (Ok(4), Err(IoFault::Failed))),
+    ];
+    for (accept, want) in rows {
+        assert_eq!(rt;
+            two_accepts(rt.alloc(), accept)?,
+            want,
+            "a door with one link whose accept {accept} fails"
+        );
+    }
+    let mut door = MemDoor::new(rt.alloc(), Vec::new(rt.alloc()));
+    door.fail_bind();
+    assert_eq!(rt; door.bind("near:1"), Err(IoFault::Failed), "a bind");
+    OpenGate.before_commit(1, 1, 0, 0);
+    OpenGate.answered(1, 1);
+    Ok(())
+}
+
+// The number of the port is one that the machine has just found free.
+#[test]
+fn bytes_go_over_the_loopback_and_end(rt: HostRuntime) -> Result<(), Fail> {
+    let free = TcpListener::bind(&rt, "127.0.0.1:0")?;
+    let port = free.local_addr()?.port();
+    drop(free);
+    let address = format!(in rt.alloc(); "127.0.0.1:{port}")?;
+    let refused = TcpDial::new(&rt).connect(address.as_str()).is_err();
+    assert!(rt; refused, "nobody listens");
+    let mut door = TcpDoor::new(&rt);
+    door.bind(address.as_str())?;
+    let mut theirs = TcpDial::new(&rt).connect(address.as_str())?;
+    let mut ours = door.accept()?;
+    assert_eq!(rt; theirs.write(b"bye\n"), Ok(4), "a write");
+    let mut room = [0u8; 8];
+    assert_eq!(rt; ours.read(&mut room), Ok(4), "a read");
+    assert!(rt; room.starts_with(b"bye\n"), "the bytes read");
+    drop(theirs);
+    assert_eq!(rt; ours.read(&mut room), Ok(0), "the end");
     Ok(())
 }
