@@ -2,9 +2,9 @@
 use Rattle.std.proofs.Common.{◌≡◌, ℕ, zero, suc, ◌+◌, ◌<◌, ◌≤◌, Bor, List, [], ◌∷◌, ◌++◌, length, refl, sym, ap, subst, ◌∙◌, arith, inl, inr, Bool, true, false, get_or, drop, add-one, drop-cons}
 use Rattle.std.proofs.Math.ListN.{set}
 use Rattle.std.specs.Prelude.{◌⊎◌, Option, Some, None, slice_get, not, ◌==◌, option_copied, IfSome, IfNone}
-use Rattle.std.specs.List.{AllByRecursion, filter, list_any}
+use Rattle.std.specs.List.{AllByRecursion, list_any}
 use Rattle.std.proofs.lemmas.Bool.{eqb-true, eq-eqb, ne_eqb, cases_lt}
-use Rattle.number_slots.specs.Slots.{is_among, without, IsAt, IsThere, numbered, IsRisingFrom, there}
+use Rattle.number_slots.specs.Slots.{is_among, without, IsAt, IsRisingFrom, there}
 
 pub by_bool : (b : Bool) (C : Type 0) → (b ≡ true → C) → (b ≡ false → C) → C
 by_bool true C t f = t refl

@@ -1,7 +1,7 @@
 -- Places and things after a thing was put or taken away.
-use Rattle.std.proofs.Common.{Bor, ◌≡◌, ℕ, zero, suc, ◌+◌, ◌<◌, ◌≤◌, ◌^◌, List, [], ◌∷◌, ◌++◌, length, get_or, refl, sym, ap, subst, ◌∙◌, arith, length-append}
+use Rattle.std.proofs.Common.{Bor, ◌≡◌, ℕ, zero, suc, ◌+◌, ◌<◌, ◌^◌, List, [], ◌∷◌, ◌++◌, length, get_or, refl, sym, ap, subst, ◌∙◌, arith, length-append}
 use Rattle.std.proofs.Math.ListN.{set}
-use Rattle.std.specs.Prelude.{Option, Some, None, IsSome, slice_get, map, option_copied, IfSome, IfNone}
+use Rattle.std.specs.Prelude.{Option, Some, None, IsSome, slice_get, option_copied, IfSome, IfNone}
 use Rattle.std.specs.List.{AllByRecursion}
 use Rattle.slab.specs.Slab.{Slab, get, slab_len, Updates}
 use Rattle.number_slots.specs.Slots.{there, without, IsAt}

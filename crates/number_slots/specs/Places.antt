@@ -1,9 +1,9 @@
 -- How things stand behind their numbers: a number's place is 0 where nothing stands under it, and else one more
 -- than the key of the thing. No contract cites this module.
-use Rattle.std.specs.Prelude.{ℕ, ◌≡◌, ◌+◌, ◌<◌, ◌^◌, zero, suc, Option, Some, None, IsSome, List, [], ◌∷◌, length, map}
+use Rattle.std.specs.Prelude.{ℕ, ◌≡◌, ◌≤◌, ◌+◌, ◌*◌, ◌<◌, ◌^◌, zero, suc, Bool, not, ◌==◌, false, Option, Some, None, IsSome, List, [], ◌∷◌, length, map, get_or}
 use Rattle.std.specs.List.{AllByRecursion}
 use Rattle.slab.specs.Slab.{Slab, get, slab_len, Updates}
-use Rattle.number_slots.specs.Slots.{there}
+use Rattle.number_slots.specs.Slots.{there, at_numbers}
 
 -- what stands at a place
 abbrev pub slot_of : {T : Type 0} → Slab T → ℕ → Option T
@@ -35,3 +35,19 @@ pub record IsKept {T : Type 0} (places : List ℕ) (s : Slab T) : Type 0 where
 abbrev pub IsPut : {T : Type 0} → Slab T → Slab T → Option T → ℕ → Type 0
 IsPut old new None place = (place ≡ 0) × (new ≡ old)
 IsPut old new (Some x) place = (key : ℕ) × (place ≡ suc key) × (get old key ≡ None) × Updates old new key (Some x) × (slab_len new ≡ slab_len old + 1)
+
+-- something stands under the number
+abbrev pub is_taken : List ℕ → ℕ → Bool
+is_taken places zero = false
+is_taken places (suc i) = not (get_or places i 0 == 0)
+
+-- the numbers of what is there, in their order
+abbrev pub numbers_of : {T : Type 0} → List (ℕ × T) → List ℕ
+numbers_of xs = map (λ x. x.0) xs
+
+-- what is always true of the numbers that a walk goes by: all that is there stands at them, in its order, each was given,
+-- and at most half of them are empty
+pub record IsWalk {T : Type 0} (numbers places : List ℕ) (s : Slab T) : Type 0 where
+  pub all : at_numbers numbers (there 1 (slots_of s places)) ≡ there 1 (slots_of s places)
+  pub given : AllByRecursion (λ n. n < length places + 1) numbers
+  pub few : length numbers ≤ 2 * slab_len s + 1

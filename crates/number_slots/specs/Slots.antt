@@ -1,6 +1,6 @@
 -- Things by their number: a list of those that are there, in the order of their numbers.
 -- Models: numbers that are given once, from 1 on, and never again. Cited by the calls of `Slots`
-use Rattle.std.specs.Prelude.{ℕ, ◌≡◌, ◌≤◌, ◌+◌, Bool, not, ◌==◌, nat_lt, ◌⊎◌, Option, Some, None, List, [], ◌∷◌}
+use Rattle.std.specs.Prelude.{ℕ, ◌≡◌, ◌≤◌, ◌+◌, Bool, not, ◌==◌, nat_lt, ◌⊎◌, Option, Some, None, List, [], ◌∷◌, ◌++◌}
 use Rattle.std.specs.List.{filter, list_any}
 
 -- the number is one of these
@@ -35,6 +35,11 @@ abbrev pub there : {T : Type 0} → ℕ → List (Option T) → List (ℕ × T)
 there n [] = []
 there n (None ∷ rest) = there (n + 1) rest
 there n (Some x ∷ rest) = (n, x) ∷ there (n + 1) rest
+
+-- what stands at these numbers, one after another
+abbrev pub at_numbers : {T : Type 0} → List ℕ → List (ℕ × T) → List (ℕ × T)
+at_numbers [] xs = []
+at_numbers (n ∷ rest) xs = filter (λ x. x.0 == n) xs ++ at_numbers rest xs
 
 -- those whose numbers lie below this one
 abbrev pub under : {T : Type 0} → ℕ → List (ℕ × T) → List (ℕ × T)

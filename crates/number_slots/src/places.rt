@@ -1,9 +1,9 @@
 //! The places of things behind their numbers: 0 where nothing stands, and else one more than the thing's key.
 ghost use Rattle.std.specs.Vec.{vec_len, vec_capacity};
-ghost use Rattle.std.specs.Prelude.{◌≡◌, ◌≤◌, ◌<◌, ◌+◌, ◌++◌, ◌∷◌, [], ◌^◌, length, Some, None, option_copied, slice_get, IfSome, IfNone};
+ghost use Rattle.std.specs.Prelude.{◌≡◌, ◌≤◌, ◌<◌, ◌+◌, ◌++◌, ◌∷◌, [], ◌^◌, length, Some, None, slice_get, IfSome, IfNone};
 ghost use Rattle.slab.specs.Slab.{slab_len, HasRoomFor};
-ghost use Rattle.number_slots.specs.Slots.{there, without, IsAt};
-ghost use Rattle.number_slots.specs.Places.{slot_of, slots_of, IsKept, IsPut};
+ghost use Rattle.number_slots.specs.Slots.{there, without, at_numbers, IsAt};
+ghost use Rattle.number_slots.specs.Places.{slots_of, IsKept, IsPut};
 
 use slab::Slab;
 
@@ -18,27 +18,25 @@ pub fn thing_at<'a, T>(places: &[usize], things: &'a Slab<T>, number: u32) -> Op
     things.get(key)
 }
 
-// What stands at a place.
-fn held<T>(place: usize, things: &Slab<T>) -> Option<&T>
-    ensures { option_copied result ≡ slot_of things.now place }
-{
-    let key = place.checked_sub(1)?;
-    things.get(key)
-}
-
 /// The `i`-th thing, from 0, in the order of their numbers, and its number.
-pub fn nth_thing<'a, T>(places: &[usize], things: &'a Slab<T>, i: u32) -> Option<(u32, &'a T)>
-    requires { length places.now + 1 < 2 ^ 32 }
+pub fn nth_thing<'a, T>(
+    numbers: &[u32],
+    places: &[usize],
+    things: &'a Slab<T>,
+    i: u32,
+) -> Option<(u32, &'a T)>
+    requires kept { IsKept places.now things.now }
+    requires all { at_numbers numbers.now (there 1 (slots_of things.now places.now)) ≡ there 1 (slots_of things.now places.now) }
     ensures some { IfSome result (λ x. slice_get (there 1 (slots_of things.now places.now)) i ≡ Some (x.0, x.1.now)) }
     ensures none { IfNone result (length (there 1 (slots_of things.now places.now)) ≤ i) }
 {
     let mut left = i;
-    for (k, place) in places.iter().enumerate() {
-        let Some(thing) = held(*place, things) else {
+    for number in numbers {
+        let Some(thing) = thing_at(places, things, *number) else {
             continue;
         };
         if left == 0 {
-            return Some((k as u32 + 1, thing));
+            return Some((*number, thing));
         }
         left -= 1;
     }

@@ -1,7 +1,8 @@
 //! Slots: one for each number that was given.
-ghost use Rattle.std.specs.Prelude.{◌≡◌, ◌≤◌, ◌<◌, ◌+◌, ◌++◌, ◌∷◌, [], ◌^◌, ℕ, is_ok, if◌then◌else◌, length, slice_get, Some, None, IfSome, IfNone, OnOk, OnErr};
-ghost use Rattle.number_slots.specs.Slots.{there, without, IsAt, IsRisingFrom};
+ghost use Rattle.std.specs.Prelude.{◌≡◌, ◌≤◌, ◌<◌, ◌+◌, ◌++◌, ◌∷◌, [], ◌^◌, ◌*◌, ℕ, is_ok, if◌then◌else◌, length, slice_get, Some, None, IfSome, IfNone, OnOk, OnErr};
+ghost use Rattle.number_slots.specs.Slots.{there, without, at_numbers, IsAt, IsRisingFrom};
 
+use crate::numbers::{note, squeeze};
 use crate::places::{clear, fill, nth_thing, thing_at};
 use slab::Slab;
 use std::alloc::{AllocError, Global};
@@ -11,19 +12,21 @@ use std::marker::Model;
 /// that was given takes 8 bytes for good; a thing takes memory only while it is there, and its room is used again.
 #[derive(Debug, Drop)]
 pub struct Slots<T> {
+    /// What a walk goes by.
+    numbers: Vec<u32>,
     places: Vec<usize>,
     things: Slab<T>,
 }
 
 impl<T> Model for Slots<T> {
     ghost use Rattle.std.specs.Prelude.{List, Option};
-    ghost use Rattle.number_slots.specs.Places.{slots_of, IsKept};
+    ghost use Rattle.number_slots.specs.Places.{slots_of, IsKept, IsWalk};
 
     ghost Value = { List (Option T) };
 
     ghost view = { λ s. slots_of s.things s.places.items };
 
-    ghost invariant = { λ s. IsKept s.places.items s.things };
+    ghost invariant = { λ s. IsKept s.places.items s.things × IsWalk s.numbers.items s.places.items s.things };
 }
 
 impl<T> Slots<T> {
@@ -32,6 +35,7 @@ impl<T> Slots<T> {
         ensures { result ≡ [] }
     {
         Slots {
+            numbers: Vec::new(alloc),
             places: Vec::new(alloc),
             things: Slab::new(alloc),
         }
@@ -68,12 +72,26 @@ impl<T> Slots<T> {
         thing_at(self.places.as_slice(), &self.things, number)
     }
 
-    /// The `i`-th thing, from 0, in the order of their numbers, and its number. It walks over all numbers before it.
+    /// The numbers that a walk over all that is there goes by: what stands at them, one after another, is all of it, and
+    /// under less than half of them nothing stands.
+    pub fn numbers(&self) -> &[u32]
+        ensures all { at_numbers result.now (there 1 self.now) ≡ there 1 self.now }
+        ensures few { length result.now ≤ 2 * length (there 1 self.now) + 1 }
+    {
+        self.numbers.as_slice()
+    }
+
+    /// The `i`-th thing, from 0, in the order of their numbers, and its number. It walks over all before it.
     pub fn nth(&self, i: u32) -> Option<(u32, &T)>
         ensures some { IfSome result (λ x. slice_get (there 1 self.now) i ≡ Some (x.0, x.1.now)) }
         ensures none { IfNone result (length (there 1 self.now) ≤ i) }
     {
-        nth_thing(self.places.as_slice(), &self.things, i)
+        nth_thing(
+            self.numbers.as_slice(),
+            self.places.as_slice(),
+            &self.things,
+            i,
+        )
     }
 
     /// Takes away what stands under these numbers, and then puts what was made, or nothing, under the next numbers. It
@@ -86,9 +104,16 @@ impl<T> Slots<T> {
         ensures length { OnOk result (length self.new ≡ length self.old + length made.items) }
         ensures err { OnErr result (self.new ≡ self.old) }
     {
+        self.numbers.reserve(made.len())?;
         self.places.reserve(made.len())?;
         self.things.reserve(made.len())?;
         clear(&mut self.places, &mut self.things, numbers);
+        squeeze(&mut self.numbers, self.places.as_slice(), &self.things);
+        note(
+            &mut self.numbers,
+            self.places.len() as u32 + 1,
+            made.as_slice(),
+        );
         fill(&mut self.places, &mut self.things, made);
         Ok(())
     }

@@ -49,5 +49,11 @@ fn numbers_are_given_once(rt: HostRuntime) -> Result<(), Fail> {
     );
     assert_eq!(rt; slots.nth(1), Some((5, &50)), "the second thing");
     assert_eq!(rt; slots.nth(3), None, "past the last thing");
+    slots.replace(&[6, 5, 4], vec![in alloc; None, Some(80)]?)?;
+    assert_eq!(rt;
+        slots.numbers(),
+        [8].as_slice(),
+        "numbers under which nothing stands any more are left out"
+    );
     Ok(())
 }

@@ -12,3 +12,4 @@ pub mod PointTests
 pub mod MeetTests
 pub mod Frames
 pub mod Laws
+pub mod Strips

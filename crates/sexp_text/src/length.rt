@@ -1,5 +1,6 @@
 //! Lengths in whole nanometres.
 ghost use Rattle.std.specs.Prelude.{◌≡◌, ◌≤◌, IfOk, unsigned_abs};
+ghost use Rattle.row_lists.specs.Limits.{coordinate_limit_nm};
 ghost use Rattle.sexp_text.specs.Lengths.{IsLength, IsNumberUnless, nanometres_of, signed};
 ghost use Rattle.sexp_text.specs.LengthReading.{length_in};
 ghost use Rattle.sexp_text.specs.NumberTexts.{Number, IsNumber, spelling};
@@ -11,7 +12,7 @@ use crate::{NumFault, Unit};
 
 // A size with its sign.
 fn with_sign(sign: Sign, size: u128) -> i64
-    requires { size ≤ 1000000000 }
+    requires { size ≤ coordinate_limit_nm }
     ensures { result ≡ signed sign size }
 {
     let size = size as i64;
@@ -29,7 +30,7 @@ pub fn length_of(text: &[u8], unit: Unit) -> Result<i64, NumFault>
     ensures length { (n : Number) → IsNumber n → text.now ≡ spelling n → IsLength n (nanometres_of unit) result }
     ensures number { IsNumberUnless text.now result }
     ensures reads { result ≡ length_in unit text.now }
-    ensures bound { IfOk result (λ z. unsigned_abs z ≤ 1000000000) }
+    ensures bound { IfOk result (λ z. unsigned_abs z ≤ coordinate_limit_nm) }
 {
     let Some(decimal) = read_number(text) else {
         return Err(NumFault::NotNumber);

@@ -1,16 +1,18 @@
 //! Decimals in whole nanometres.
 ghost use Rattle.std.specs.Prelude.{◌≡◌, ◌+◌, ◌-◌, ◌*◌, ◌^◌, ◌<◌, ◌≤◌, ℕ, IfSome, IfNone};
+ghost use Rattle.row_lists.specs.Limits.{coordinate_limit_nm};
 ghost use Rattle.sexp_text.specs.Lengths.{IsNearest, IsSize};
 
 use crate::number::Decimal;
+use row_lists::COORDINATE_LIMIT_NM;
 
 /// The largest size of a length, in nanometres.
-pub(crate) const LIMIT_NM: u128 = 1_000_000_000;
+pub(crate) const LIMIT_NM: u128 = COORDINATE_LIMIT_NM as u128;
 
 // The number with so many zeros behind it, or `None` where that is above the limit.
 pub(crate) fn shifted_up(number: u128, places: u32) -> Option<u128>
-    ensures within { IfSome result (λ k. (k ≤ 1000000000) × (k ≡ number * 10 ^ places)) }
-    ensures above { IfNone result (1000000000 < number * 10 ^ places) }
+    ensures within { IfSome result (λ k. (k ≤ coordinate_limit_nm) × (k ≡ number * 10 ^ places)) }
+    ensures above { IfNone result (coordinate_limit_nm < number * 10 ^ places) }
 {
     let mut shifted = number;
     for _place in 0..places {
@@ -51,8 +53,8 @@ fn shifted_down(number: u128, places: u32) -> u128
 pub(crate) fn size_of(decimal: Decimal, per_unit: u32) -> Option<u128>
     requires digits { decimal.digits < 10 ^ 30 }
     requires unit { per_unit ≤ 25400000 }
-    ensures within { IfSome result (λ k. (k ≤ 1000000000) × IsSize decimal per_unit k) }
-    ensures above { IfNone result ((k : ℕ) × IsSize decimal per_unit k × (1000000000 < k)) }
+    ensures within { IfSome result (λ k. (k ≤ coordinate_limit_nm) × IsSize decimal per_unit k) }
+    ensures above { IfNone result ((k : ℕ) × IsSize decimal per_unit k × (coordinate_limit_nm < k)) }
 {
     let number = decimal.digits * u128::from(per_unit);
     if decimal.right >= decimal.left {

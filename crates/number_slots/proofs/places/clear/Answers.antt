@@ -1,4 +1,4 @@
-use Rattle.std.proofs.Common.{rules, ◌≡◌, ◌+◌, ◌∷◌, [], List, ℕ, arith, ap, sym, ◌∙◌, drop, slice_index_or, refl}
+use Rattle.std.proofs.Common.{◌≡◌, ◌+◌, ◌∷◌, List, ℕ, arith, ap, sym, ◌∙◌, drop, slice_index_or}
 use Rattle.std.proofs.lemmas.List.{drop_all}
 use Rattle.number_slots.specs.Slots.{there, without}
 use Rattle.number_slots.specs.Places.{slots_of}

@@ -1,6 +1,4 @@
-use Rattle.std.proofs.Common.{rules, ◌≡◌, ◌+◌, ◌-◌, ◌<◌, ◌≤◌, suc, arith, sym, get_or}
-use Rattle.std.specs.Prelude.{Some}
-use Rattle.slab.specs.Slab.{get}
+use Rattle.std.proofs.Common.{rules, ◌≡◌, ◌-◌, arith, get_or}
 use Rattle.number_slots.specs.Places.{slots_of}
 use Rattle.number_slots.proofs.Kept.{stays_low, stays_past, stays_empty, cleared_left, cleared_kept, read_place}
 use Rattle.number_slots.proofs.places.clear_one.Goals as goal

@@ -1,4 +1,3 @@
-use Rattle.std.proofs.Common.{rules, ◌≡◌, arith, sym}
 use Rattle.number_slots.proofs.Kept.{put_slots, put_kept}
 use Rattle.number_slots.proofs.places.put_one.Goals as goal
 

@@ -1,7 +1,5 @@
-use Rattle.std.proofs.Common.{rules, ◌≡◌, ◌+◌, ◌<◌, ◌≤◌, suc, arith, sym, refl, get_or}
-use Rattle.std.specs.Prelude.{slice_get, Some}
-use Rattle.std.proofs.lemmas.Bool.{ltb-false, ltb-true}
-use Rattle.number_slots.specs.Slots.{there}
+use Rattle.std.proofs.Common.{rules, arith, sym}
+use Rattle.std.proofs.lemmas.Bool.{ltb-false}
 use Rattle.number_slots.specs.Places.{slots_of}
 use Rattle.number_slots.proofs.Kept.{none_low, none_past, none_empty, key_some, key_none}
 use Rattle.number_slots.proofs.places.thing_at.Goals as goal

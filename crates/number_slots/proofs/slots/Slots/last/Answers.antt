@@ -1,4 +1,4 @@
-use Rattle.std.proofs.Common.{rules, arith}
+use Rattle.std.proofs.Common.{arith}
 use Rattle.number_slots.specs.Places.{slots_of}
 use Rattle.number_slots.specs.Slots.{there}
 use Rattle.number_slots.proofs.Kept.{as_many}
