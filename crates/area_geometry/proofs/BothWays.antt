@@ -9,7 +9,7 @@ pieces-turned s t k h = record {
   each = λ j b hj. λ i a hi. IsApart-turned _ _ k (h.each i a hi j b hj);
 }
 
-cores-turned : (s t : Copper) (k : ℕ) → AreCoresApart s t k → AreCoresApart t s k
+pub cores-turned : (s t : Copper) (k : ℕ) → AreCoresApart s t k → AreCoresApart t s k
 cores-turned s t k h = record { pieces = pieces-turned s t k h.pieces; first = h.other_first; other_first = h.first }
 
 pub shapes-turned : (s t : Copper) (c : ℕ) → AreShapesApart s t c → AreShapesApart t s c

@@ -34,11 +34,11 @@ above_zero r (pos (suc n)) s =
     ap (λ (z : ℤ). lt_z (pos 0) z) (s.left.1 (omega (arith, ints))) ∙ ap (λ m. int_eq (pos m) (pos 1)) one
 above_zero r (negsuc n) s = ap (λ (z : ℤ). lt_z (pos 0) z) (s.right.1 (omega (arith, ints)))
 
-signum_below : (x : ℤ) → x <ℤ pos 0 → int_signum x ≡ negsuc 0
+pub signum_below : (x : ℤ) → x <ℤ pos 0 → int_signum x ≡ negsuc 0
 signum_below (pos n) h = absurd (omega (arith, ints))
 signum_below (negsuc n) h = refl
 
-signum_above : (x : ℤ) → pos 0 <ℤ x → int_signum x ≡ pos 1
+pub signum_above : (x : ℤ) → pos 0 <ℤ x → int_signum x ≡ pos 1
 signum_above (pos n) h = let one : min n 1 ≡ 1 = omega (arith, ints) in ap pos one
 signum_above (negsuc n) h = absurd (omega (arith, ints))
 

@@ -3,3 +3,7 @@ pub mod Places
 pub mod Crossings
 pub mod Outlines
 pub mod BothWays
+pub mod Rays
+pub mod Missed
+pub mod Framed
+pub mod Reaches

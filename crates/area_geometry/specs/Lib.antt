@@ -1,3 +1,4 @@
 pub mod Copper
 pub mod Rings
 pub mod Apart
+pub mod Boxes

@@ -2,6 +2,7 @@
 ghost use Rattle.std.specs.Prelude.{ℕ, ◌≤◌, ◌+◌, ◌*◌, ◌↔◌, length, All, IsTrue};
 ghost use Rattle.seg_geometry.specs.Points.{IsInRange, IsSegInRange};
 ghost use Rattle.seg_geometry.specs.Apart.{IsApart};
+ghost use Rattle.row_lists.specs.Limits.{width_limit_nm};
 ghost use Rattle.area_geometry.specs.Copper.{Copper, copper_of, pieces_of, IsWithinLimits};
 ghost use Rattle.area_geometry.specs.Apart.{pair_count, AreAllApart, AreCoresApart, AreShapesApart, BeginsOutside, IsFirstInside, LiesWithin, Touches};
 
@@ -75,7 +76,7 @@ pub fn shape_keeps<L: Ledger>(
 ) -> bool
     requires s_in { IsWithinLimits (copper_of s) }
     requires t_in { IsWithinLimits (copper_of t) }
-    requires c_small { c ≤ 100000000 }
+    requires c_small { c ≤ width_limit_nm }
     ensures apart { IsTrue result ↔ AreShapesApart (copper_of s.entry) (copper_of t.entry) c }
     ensures cost { steps.new ≤ steps.old + pair_count (copper_of s.entry) (copper_of t.entry) }
 {

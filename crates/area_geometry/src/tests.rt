@@ -1,10 +1,10 @@
 ghost use Rattle.std.specs.Prelude.{◌≡◌, ◌<◌};
 
 use crate::{
-    Core, Shape, ShapeView, Shapes, inside, is_within_limits, lies_within, points_of, shape_keeps,
-    touches,
+    Core, Shape, ShapeView, Shapes, box_of, inside, is_within_limits, lies_within, points_of,
+    shape_keeps, touches,
 };
-use seg_geometry::{Points, Pt, Steps, in_range};
+use seg_geometry::{Points, Pt, Rect, Steps, in_range};
 use std::marker::Brand;
 use std::sync::ledger::{Blank, Ledger};
 use std::test::Fail;
@@ -263,5 +263,44 @@ fn shapes_lie_within_what_they_keep_from(rt: HostRuntime) {
             Some(want),
             "an area at {x} {y}"
         );
+    }
+}
+
+/// What `box_of` answers, or None where its condition isn't met.
+fn framed(s: ShapeView<'_>, by: u32) -> Option<Rect> {
+    if is_within_limits(s) && !s.points.is_empty() && by <= 100_000_000 {
+        return Some(box_of(s, by));
+    }
+    None
+}
+
+// By hand: half of 251 nm is 126 nm, rounded up.
+#[test]
+fn a_box_holds_a_shape_with_half_its_width(rt: HostRuntime) {
+    let line = [pt(0, 0), pt(1_000, -2_000), pt(400, -900)];
+    let wide = Some(Rect {
+        lo: pt(-127, -2_127),
+        hi: pt(1_127, 127),
+    });
+    let placed = Some(Rect {
+        lo: pt(9_874, 17_874),
+        hi: pt(11_126, 20_126),
+    });
+    let thin = Some(Rect {
+        lo: pt(0, -2_000),
+        hi: pt(1_000, 0),
+    });
+    for (s, by, want, name) in [
+        (chain(&line, 251), 1, wide, "a chain, 1 nm more"),
+        (
+            moved_to(chain(&line, 251), 10_000, 20_000),
+            0,
+            placed,
+            "moved",
+        ),
+        (area(&line, 0), 0, thin, "an area of no width"),
+        (chain(&[], 10), 0, None, "no point"),
+    ] {
+        assert_eq!(rt; framed(s, by), want, "{name}");
     }
 }

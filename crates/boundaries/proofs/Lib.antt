@@ -4,3 +4,5 @@ pub mod Segments
 pub mod Walked
 pub mod Leasts
 pub mod Kept
+pub mod Nearness
+pub mod Saved

@@ -8,7 +8,7 @@ use Rattle.std.proofs.lemmas.Bool.{lt-ltb}
 use Rattle.number_slots.specs.Slots.{is_among, IsAt, IsRisingFrom}
 use Rattle.number_slots.proofs.ByNumber.{at_either, at_least, at_once, by_lt, among_cases, among_first, among_more}
 use Rattle.boundaries.specs.Boundaries.{Boundary}
-use Rattle.boundaries.specs.Costs.{boundary_most, fences_most}
+use Rattle.boundaries.specs.Costs.{fences_most}
 use Rattle.boundaries.proofs.Segments.{left_is}
 
 -- the things so far, and the next one
@@ -71,17 +71,13 @@ least_at k Q xs i x r e none n y h q = by_lt n x.0 (x.0 ≤ n) (λ lt. absurd (n
 -- ---- steps
 
 -- the steps that are kept for what is left are those for the next boundary and those for the rest
-pub most_left : (s above : ℕ) (xs : List (ℕ × Boundary)) (i : ℕ) (x : ℕ × Boundary) → slice_get xs i ≡ Some x → fences_most s above (drop i xs) ≡ (if nat_lt above x.0 then boundary_most s x.1 else 0) + fences_most s above (drop (i + 1) xs)
-most_left s above xs i x e = ap (fences_most s above) (left_is xs i x e)
-
--- the next boundary is passed over
-pub most_skipped : (s above : ℕ) (xs : List (ℕ × Boundary)) (i : ℕ) (x : ℕ × Boundary) → slice_get xs i ≡ Some x → fences_most s above (drop (i + 1) xs) ≤ fences_most s above (drop i xs)
-most_skipped s above xs i x e = let split = most_left s above xs i x e in omega (arith, split)
+pub most_left : (most : Boundary → ℕ) (above : ℕ) (xs : List (ℕ × Boundary)) (i : ℕ) (x : ℕ × Boundary) → slice_get xs i ≡ Some x → fences_most most above (drop i xs) ≡ (if nat_lt above x.0 then most x.1 else 0) + fences_most most above (drop (i + 1) xs)
+most_left most above xs i x e = ap (fences_most most above) (left_is xs i x e)
 
 -- the next boundary is tested
-pub most_tested : (s above : ℕ) (xs : List (ℕ × Boundary)) (i : ℕ) (x : ℕ × Boundary) → slice_get xs i ≡ Some x → above < x.0 → boundary_most s x.1 + fences_most s above (drop (i + 1) xs) ≡ fences_most s above (drop i xs)
-most_tested s above xs i x e past =
-    let split = most_left s above xs i x e in
+pub most_tested : (most : Boundary → ℕ) (above : ℕ) (xs : List (ℕ × Boundary)) (i : ℕ) (x : ℕ × Boundary) → slice_get xs i ≡ Some x → above < x.0 → most x.1 + fences_most most above (drop (i + 1) xs) ≡ fences_most most above (drop i xs)
+most_tested most above xs i x e past =
+    let split = most_left most above xs i x e in
     let t : nat_lt above x.0 ≡ true = lt-ltb above x.0 past in sym (rw t at split)
 
 -- ---- lists of numbers
@@ -127,5 +123,5 @@ pub found_only : {T : Type 0} (k : ℕ) (xs : List (ℕ × T)) (i n : ℕ) (r : 
 found_only k xs i n r b rising e is c h = at_once k xs n c r.1 rising h (found_at xs i n r b e is)
 
 -- the next boundary is tested, whatever its number
-pub most_of_all : (s : ℕ) (xs : List (ℕ × Boundary)) (i : ℕ) (x : ℕ × Boundary) → IsRisingFrom 1 xs → slice_get xs i ≡ Some x → boundary_most s x.1 + fences_most s 0 (drop (i + 1) xs) ≡ fences_most s 0 (drop i xs)
-most_of_all s xs i x r e = let low = at_least 1 xs x.0 x.1 r (read_at xs i x e) in most_tested s 0 xs i x e (omega (arith, low))
+pub most_of_all : (most : Boundary → ℕ) (xs : List (ℕ × Boundary)) (i : ℕ) (x : ℕ × Boundary) → IsRisingFrom 1 xs → slice_get xs i ≡ Some x → most x.1 + fences_most most 0 (drop (i + 1) xs) ≡ fences_most most 0 (drop i xs)
+most_of_all most xs i x r e = let low = at_least 1 xs x.0 x.1 r (read_at xs i x e) in most_tested most 0 xs i x e (omega (arith, low))

@@ -7,10 +7,9 @@ ghost use Rattle.seg_geometry.specs.Points.{IsInRange};
 ghost use Rattle.area_geometry.specs.Copper.{IsWithinLimits};
 ghost use Rattle.board_items.specs.Adds.{item_seen};
 ghost use Rattle.board_items.specs.Shapes.{copper_of_item};
-ghost use Rattle.board_items.specs.Segments.{segments_of};
 ghost use Rattle.boundaries.specs.Boundaries.{Boundary, Fencing, IsSameFencing, HasRoomFor, boundary_of, fence_made, entitled_at, IsEntitledAt, IsOwner, IsFitArea};
 ghost use Rattle.boundaries.specs.Touching.{IsForeign, IsOverlapped, IsTouched};
-ghost use Rattle.boundaries.specs.Costs.{fences_most};
+ghost use Rattle.boundaries.specs.Costs.{boundary_most, overlap_most, fences_most};
 
 use crate::live::Live;
 use crate::spare::Spare;
@@ -175,7 +174,7 @@ impl Fences {
         requires item_few { length (copper_of_item stacks.now (item_seen item)) < 2 ^ 32 }
         ensures exact { IfOk result (λ ids. (n : ℕ) → (is_among n ids ≡ true) ↔ IsTouched self.now.fences (copper_of_item stacks.now (item_seen item.entry)) n) }
         ensures rising { IfOk result IsStrictlyIncreasing }
-        ensures cost { steps.new ≤ steps.old + fences_most (segments_of stacks.now (item_seen item.entry)) 0 self.now.fences }
+        ensures cost { steps.new ≤ steps.old + fences_most (boundary_most (copper_of_item stacks.now (item_seen item.entry))) 0 self.now.fences }
     {
         touched_by(
             *self.live.allocator(),
@@ -199,7 +198,7 @@ impl Fences {
         requires item_in { All IsWithinLimits (copper_of_item stacks.now (item_seen item)) }
         requires item_few { length (copper_of_item stacks.now (item_seen item)) < 2 ^ 32 }
         ensures least { IsLeast (IsForeign self.now.fences (copper_of_item stacks.now (item_seen item.entry)) client above) result }
-        ensures cost { steps.new ≤ steps.old + fences_most (segments_of stacks.now (item_seen item.entry)) above self.now.fences }
+        ensures cost { steps.new ≤ steps.old + fences_most (boundary_most (copper_of_item stacks.now (item_seen item.entry))) above self.now.fences }
     {
         least_foreign(self.live.as_slice(), item, stacks, client, above, steps)
     }
@@ -215,7 +214,7 @@ impl Fences {
     ) -> Option<u32>
         requires { IsFitArea area.now }
         ensures least { IsLeast (IsOverlapped self.now.fences layers.now area.now client) result }
-        ensures cost { steps.new ≤ steps.old + fences_most (length area.now) 0 self.now.fences }
+        ensures cost { steps.new ≤ steps.old + fences_most (overlap_most layers.now area.now) 0 self.now.fences }
     {
         least_overlapped(
             self.live.as_slice(),

@@ -10,7 +10,7 @@ mod touching;
 mod walks;
 
 pub use fences::Fences;
-pub use laws::entitled_clients_rise_and_stand_once;
+pub use laws::{boxes_only_save_steps, entitled_clients_rise_and_stand_once};
 pub use touching::touches_area;
 
 #[cfg(test)]

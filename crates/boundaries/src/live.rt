@@ -1,17 +1,17 @@
 //! A boundary that is live, under its number.
-ghost use Rattle.std.specs.Prelude.{◌≡◌, ◌≤◌, ◌+◌, ◌*◌, ◌<◌, ◌^◌, ◌↔◌, IsTrue, All, length};
+ghost use Rattle.std.specs.Prelude.{◌≡◌, ◌≤◌, ◌+◌, ◌<◌, ◌^◌, ◌↔◌, IsTrue, All, length};
+ghost use Rattle.seg_geometry.specs.Rectangles.{IsLeastGrown};
 ghost use Rattle.area_geometry.specs.Copper.{IsWithinLimits};
 ghost use Rattle.board_items.specs.Adds.{item_seen};
 ghost use Rattle.board_items.specs.Shapes.{copper_of_item};
-ghost use Rattle.board_items.specs.Segments.{segments_of};
 ghost use Rattle.boundaries.specs.Boundaries.{Boundary, IsFitArea, boundary_of, entitling, IsEntitled};
 ghost use Rattle.boundaries.specs.Touching.{TouchesBoundary, Overlaps};
-ghost use Rattle.boundaries.specs.Costs.{above_most, boundary_most};
+ghost use Rattle.boundaries.specs.Costs.{above_most, boundary_most, overlap_most};
 
 use crate::clients::ClientSet;
 use crate::touching::{area_near, share_layer, touches_area};
 use board_items::{ItemView, Layers, Stacks};
-use seg_geometry::{Points, Pt, Steps};
+use seg_geometry::{Points, Pt, Rect, Steps, rect_of};
 use std::marker::Model;
 use std::sync::ledger::Ledger;
 
@@ -22,18 +22,21 @@ pub struct Live {
     owner: u8,
     layers: Layers,
     area: Points,
+    // The least rectangle round the area.
+    frame: Rect,
     clients: ClientSet,
 }
 
 impl Model for Live {
     ghost use Rattle.std.specs.Prelude.{ℕ};
+    ghost use Rattle.seg_geometry.specs.Rectangles.{IsLeastGrown};
     ghost use Rattle.boundaries.specs.Boundaries.{Boundary, IsFitArea};
 
     ghost Value = { ℕ × Boundary };
 
     ghost view = { λ f. (f.number, record { owner = f.owner; layers = f.layers; area = f.area; clients = f.clients }) };
 
-    ghost invariant = { λ f. IsFitArea f.area };
+    ghost invariant = { λ f. IsFitArea f.area × IsLeastGrown f.frame f.area 0 };
 }
 
 impl Live {
@@ -42,11 +45,13 @@ impl Live {
         requires { IsFitArea area }
         ensures { result ≡ (number, boundary_of owner layers area clients.now) }
     {
+        let frame = rect_of(area.as_slice(), 0);
         Live {
             number,
             owner,
             layers,
             area,
+            frame,
             clients: ClientSet::of(clients),
         }
     }
@@ -89,24 +94,34 @@ impl Live {
         requires item_in { All IsWithinLimits (copper_of_item stacks.now (item_seen item)) }
         requires item_few { length (copper_of_item stacks.now (item_seen item)) < 2 ^ 32 }
         ensures touches { IsTrue result ↔ TouchesBoundary (copper_of_item stacks.now (item_seen item.entry)) self.now.1 }
-        ensures cost { steps.new ≤ steps.old + boundary_most (segments_of stacks.now (item_seen item.entry)) self.now.1 }
+        ensures cost { steps.new ≤ steps.old + boundary_most (copper_of_item stacks.now (item_seen item.entry)) self.now.1 }
     {
         touches_area(
             item,
             stacks,
             self.layers.as_slice(),
             self.area.as_slice(),
+            self.frame,
             steps,
         )
     }
 
-    /// Whether an area on some layers has one in common with the boundary, and isn't apart by 1 nm from its area.
-    pub fn overlaps<L: Ledger>(&self, layers: &[u8], area: &[Pt], steps: &mut Steps<L>) -> bool
-        requires { IsFitArea area.now }
+    /// Whether an area on some layers has one in common with the boundary, and isn't apart by 1 nm from its area. The
+    /// area's least rectangle, moved out by 1 nm, is `own`.
+    pub fn overlaps<L: Ledger>(
+        &self,
+        layers: &[u8],
+        area: &[Pt],
+        own: Rect,
+        steps: &mut Steps<L>,
+    ) -> bool
+        requires area_fits { IsFitArea area.now }
+        requires own { IsLeastGrown own area.now 1 }
         ensures overlaps { IsTrue result ↔ Overlaps layers.now area.now self.now.1 }
-        ensures cost { steps.new ≤ steps.old + boundary_most (length area.now) self.now.1 }
+        ensures cost { steps.new ≤ steps.old + overlap_most layers.now area.now self.now.1 }
     {
-        share_layer(layers, self.layers.as_slice()) && area_near(area, self.area.as_slice(), steps)
+        share_layer(layers, self.layers.as_slice())
+            && area_near(area, own, self.area.as_slice(), self.frame, steps)
     }
 
     /// Whether the number is greater than `above`, an item touches the boundary, and the client isn't entitled in it. It
@@ -125,7 +140,7 @@ impl Live {
         ensures foreign { IsTrue result → IsEntitled self.now.1 client → ⊥ }
         ensures touched { IsTrue result → TouchesBoundary (copper_of_item stacks.now (item_seen item.entry)) self.now.1 }
         ensures all { above < self.now.0 → (IsEntitled self.now.1 client → ⊥) → TouchesBoundary (copper_of_item stacks.now (item_seen item.entry)) self.now.1 → IsTrue result }
-        ensures cost { steps.new ≤ steps.old + above_most (segments_of stacks.now (item_seen item.entry)) above self.now }
+        ensures cost { steps.new ≤ steps.old + above_most (boundary_most (copper_of_item stacks.now (item_seen item.entry))) above self.now }
     {
         if self.number <= above {
             return false;
@@ -136,21 +151,24 @@ impl Live {
         self.is_touched(item, stacks, steps)
     }
 
-    /// Whether an area on some layers overlaps the boundary, and the client isn't entitled in it.
+    /// Whether an area on some layers overlaps the boundary, and the client isn't entitled in it. The area's least
+    /// rectangle, moved out by 1 nm, is `own`.
     pub fn is_overlapped<L: Ledger>(
         &self,
         layers: &[u8],
         area: &[Pt],
+        own: Rect,
         client: u8,
         steps: &mut Steps<L>,
     ) -> bool
-        requires { IsFitArea area.now }
+        requires area_fits { IsFitArea area.now }
+        requires own { IsLeastGrown own area.now 1 }
         ensures overlapped { IsTrue result ↔ ((IsEntitled self.now.1 client → ⊥) × Overlaps layers.now area.now self.now.1) }
-        ensures cost { steps.new ≤ steps.old + boundary_most (length area.now) self.now.1 }
+        ensures cost { steps.new ≤ steps.old + overlap_most layers.now area.now self.now.1 }
     {
         if self.entitles(client) {
             return false;
         }
-        self.overlaps(layers, area, steps)
+        self.overlaps(layers, area, own, steps)
     }
 }

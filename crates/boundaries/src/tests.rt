@@ -4,7 +4,7 @@ ghost use Rattle.std.specs.Prelude.{◌≡◌, ◌<◌};
 use crate::{Fences, touches_area};
 use board_items::{Clients, ItemView, Layers, Stacks};
 use row_lists::WIDTH_LIMIT_NM;
-use seg_geometry::{Ids, Points, Pt, Steps, in_range};
+use seg_geometry::{Ids, Points, Pt, Steps, in_range, rect_of};
 use std::alloc::{AllocError, Global};
 use std::marker::Brand;
 use std::sync::ledger::{Blank, Ledger};
@@ -164,7 +164,7 @@ fn find<L: Ledger>(
     if wire.width > WIDTH_LIMIT_NM || !points.iter().all(|p| in_range(*p)) {
         return Ok(None);
     }
-    if !area.as_slice().iter().all(|p| in_range(*p)) {
+    if area.is_empty() || !area.as_slice().iter().all(|p| in_range(*p)) {
         return Ok(None);
     }
     let item = ItemView::Wire {
@@ -181,6 +181,7 @@ fn find<L: Ledger>(
         &stacks,
         layers.as_slice(),
         area.as_slice(),
+        rect_of(area.as_slice(), 0),
         &mut steps,
     );
     Ok(Some((least, touched, near)))

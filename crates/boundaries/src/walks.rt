@@ -6,14 +6,13 @@ ghost use Rattle.number_slots.specs.Slots.{is_among, IsAt, IsRisingFrom};
 ghost use Rattle.area_geometry.specs.Copper.{IsWithinLimits};
 ghost use Rattle.board_items.specs.Adds.{item_seen};
 ghost use Rattle.board_items.specs.Shapes.{copper_of_item};
-ghost use Rattle.board_items.specs.Segments.{segments_of};
 ghost use Rattle.boundaries.specs.Boundaries.{Boundary, IsFitArea};
 ghost use Rattle.boundaries.specs.Touching.{IsForeign, IsOverlapped, IsTouched};
-ghost use Rattle.boundaries.specs.Costs.{fences_most};
+ghost use Rattle.boundaries.specs.Costs.{boundary_most, overlap_most, fences_most};
 
 use crate::live::Live;
 use board_items::{ItemView, Stacks};
-use seg_geometry::{Ids, Pt, Steps};
+use seg_geometry::{Ids, Pt, Steps, rect_of};
 use std::alloc::{AllocError, Global};
 use std::sync::ledger::Ledger;
 
@@ -54,7 +53,7 @@ pub fn least_foreign<L: Ledger>(
     requires item_in { All IsWithinLimits (copper_of_item stacks.now (item_seen item)) }
     requires item_few { length (copper_of_item stacks.now (item_seen item)) < 2 ^ 32 }
     ensures least { IsLeast (IsForeign live.now (copper_of_item stacks.now (item_seen item.entry)) client above) result }
-    ensures cost { steps.new ≤ steps.old + fences_most (segments_of stacks.now (item_seen item.entry)) above live.now }
+    ensures cost { steps.new ≤ steps.old + fences_most (boundary_most (copper_of_item stacks.now (item_seen item.entry))) above live.now }
 {
     for fence in live {
         if fence.bars(item, stacks, client, above, steps) {
@@ -77,7 +76,7 @@ pub fn touched_by<L: Ledger>(
     requires item_few { length (copper_of_item stacks.now (item_seen item)) < 2 ^ 32 }
     ensures exact { IfOk result (λ ids. (n : ℕ) → (is_among n ids ≡ true) ↔ IsTouched live.now (copper_of_item stacks.now (item_seen item.entry)) n) }
     ensures rising { IfOk result IsStrictlyIncreasing }
-    ensures cost { steps.new ≤ steps.old + fences_most (segments_of stacks.now (item_seen item.entry)) 0 live.now }
+    ensures cost { steps.new ≤ steps.old + fences_most (boundary_most (copper_of_item stacks.now (item_seen item.entry))) 0 live.now }
 {
     let mut ids = Ids::new(alloc);
     for fence in live {
@@ -99,10 +98,11 @@ pub fn least_overlapped<L: Ledger>(
     requires rising { IsRisingFrom 1 live.now }
     requires area_fits { IsFitArea area.now }
     ensures least { IsLeast (IsOverlapped live.now layers.now area.now client) result }
-    ensures cost { steps.new ≤ steps.old + fences_most (length area.now) 0 live.now }
+    ensures cost { steps.new ≤ steps.old + fences_most (overlap_most layers.now area.now) 0 live.now }
 {
+    let own = rect_of(area, 1);
     for fence in live {
-        if fence.is_overlapped(layers, area, client, steps) {
+        if fence.is_overlapped(layers, area, own, client, steps) {
             return Some(fence.number());
         }
     }

@@ -1,10 +1,7 @@
-use Rattle.std.proofs.Common.{◌*◌, ℕ, length, ap, ◌∙◌, arith}
-use Rattle.area_geometry.specs.Copper.{Copper, pieces_of}
-use Rattle.boundaries.proofs.Segments.{length-area}
+use Rattle.std.proofs.Common.{sym, subst}
+use Rattle.area_geometry.specs.Copper.{Copper}
+use Rattle.area_geometry.specs.Boxes.{IsBox}
 use Rattle.boundaries.proofs.touching.area_near.Goals as goal
 
-pub returns-clause-cost : goal.returns-clause-cost
-returns-clause-cost g c =
-    let edges = ap (λ (s : Copper). length (pieces_of s)) c.area_view.ensures ∙ length-area 0 c.args.area.now in
-    let same = ap (λ (n : ℕ). n * length c.args.other.now) edges in
-    omega (arith, same, c.touches.ensures.cost)
+pub touches_framed-requires-clause-own : goal.touches_framed-requires-clause-own
+touches_framed-requires-clause-own g c = subst (λ (s : Copper). IsBox c.args.own s 1) (sym c.area_view.ensures) (record { box = c.requires.own })

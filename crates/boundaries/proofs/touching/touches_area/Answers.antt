@@ -1,13 +1,12 @@
-use Rattle.std.proofs.Common.{◌≡◌, ◌≤◌, ◌+◌, length, take, drop, arith, refl, sym, subst, true, false}
+use Rattle.std.proofs.Common.{◌≡◌, ◌≤◌, length, take, arith, refl, sym, subst, true, false}
 use Rattle.std.proofs.lemmas.List.{take_all}
 use Rattle.std.proofs.lemmas.List.Elements.{All-same}
-use Rattle.area_geometry.specs.Copper.{Copper, copper_of, pieces_of}
+use Rattle.area_geometry.specs.Copper.{Copper, copper_of}
 use Rattle.area_geometry.proofs.Places.{All-walked}
 use Rattle.board_items.specs.Adds.{item_seen}
 use Rattle.board_items.specs.Shapes.{copper_of_item}
-use Rattle.board_items.specs.Segments.{segments_in, segments_of}
 use Rattle.boundaries.specs.Touching.{IsTouching, TouchesArea}
-use Rattle.boundaries.proofs.Segments.{one_less, segments_left, any_at}
+use Rattle.boundaries.proofs.Segments.{shapes_left, any_at}
 use Rattle.boundaries.proofs.touching.touches_area.Goals as goal
 
 pub returns-then-shape_touches-clause-touches : goal.returns-then-shape_touches-clause-touches
@@ -18,21 +17,19 @@ returns-then-shape_touches-clause-touches g c =
     )
 
 pub returns-then-shape_touches-clause-cost : goal.returns-then-shape_touches-clause-cost
-unfolding segments_of
 returns-then-shape_touches-clause-cost g c =
     let shapes = copper_of_item c.args.stacks.now (item_seen c.args.item) in
-    let left = segments_left shapes c.loop-i.i (copper_of c.shape_at.result) c.shape_at.ensures in
-    let spent = one_less (length c.args.area.now) c.loop-i.steps (segments_in (drop c.loop-i.i shapes)) (length (pieces_of (copper_of c.shape_at.result))) (segments_in (drop (c.loop-i.i + 1) shapes)) _ _ left c.loop-i.invariant.cost c.if-shape_touches.ensures.cost in
-    omega (arith, spent)
+    let left = shapes_left c.args.layers.now c.args.area.now shapes c.loop-i.i (copper_of c.shape_at.result) c.shape_at.ensures in
+    omega (arith, left, c.loop-i.invariant.cost, c.if-shape_touches.ensures.cost)
 
 pub loop-i-preserved : goal.loop-i-preserved
 loop-i-preserved g c =
     let shapes = copper_of_item c.args.stacks.now (item_seen c.args.item) in
-    let left = segments_left shapes c.loop-i.i (copper_of c.shape_at.result) c.shape_at.ensures in
+    let left = shapes_left c.args.layers.now c.args.area.now shapes c.loop-i.i (copper_of c.shape_at.result) c.shape_at.ensures in
     let not_this = λ (h : IsTouching c.args.layers.now c.args.area.now (copper_of c.shape_at.result)). let wrong : false ≡ true = c.if-shape_touches.ensures.touches.1 h in absurd cc in
     record {
       none = All-walked (λ (s : Copper). IsTouching c.args.layers.now c.args.area.now s → ⊥) shapes c.loop-i.i (copper_of c.shape_at.result) c.shape_at.ensures c.loop-i.invariant.none not_this;
-      cost = one_less (length c.args.area.now) c.loop-i.steps (segments_in (drop c.loop-i.i shapes)) (length (pieces_of (copper_of c.shape_at.result))) (segments_in (drop (c.loop-i.i + 1) shapes)) _ _ left c.loop-i.invariant.cost c.if-shape_touches.ensures.cost;
+      cost = omega (arith, left, c.loop-i.invariant.cost, c.if-shape_touches.ensures.cost);
     }
 
 pub returns-clause-touches : goal.returns-clause-touches
@@ -45,5 +42,4 @@ returns-clause-touches g c =
     )
 
 pub returns-clause-cost : goal.returns-clause-cost
-unfolding segments_of
 returns-clause-cost g c = let all = c.loop-i.invariant.cost in omega (arith, all)

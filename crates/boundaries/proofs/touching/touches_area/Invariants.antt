@@ -1,8 +1,8 @@
-use Rattle.std.proofs.Common.{◌≤◌, ◌+◌, ◌*◌, length, take, drop}
+use Rattle.std.proofs.Common.{◌≤◌, ◌+◌, take, drop}
 use Rattle.std.specs.Prelude.{All}
 use Rattle.board_items.specs.Adds.{item_seen}
 use Rattle.board_items.specs.Shapes.{copper_of_item}
-use Rattle.board_items.specs.Segments.{segments_in}
+use Rattle.boundaries.specs.Costs.{shapes_most}
 use Rattle.boundaries.specs.Touching.{IsTouching}
 use Rattle.boundaries.proofs.touching.touches_area.Given as goal
 
@@ -10,5 +10,5 @@ use Rattle.boundaries.proofs.touching.touches_area.Given as goal
 abbrev pub invariant-loop-i : goal.invariant-loop-i
 invariant-loop-i g l = record {
   none : All (λ s. IsTouching l.layers l.area s → ⊥) (take l.i (copper_of_item l.stacks (item_seen l.item)));
-  cost : l.steps + segments_in (drop l.i (copper_of_item l.stacks (item_seen l.item))) * length l.area ≤ l.initial.steps + segments_in (copper_of_item l.stacks (item_seen l.item)) * length l.area;
+  cost : l.steps + shapes_most l.layers l.area (drop l.i (copper_of_item l.stacks (item_seen l.item))) ≤ l.initial.steps + shapes_most l.layers l.area (copper_of_item l.stacks (item_seen l.item));
 }

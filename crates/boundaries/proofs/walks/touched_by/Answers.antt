@@ -2,7 +2,7 @@ use Rattle.std.proofs.Common.{◌≡◌, ◌+◌, refl, sym, subst, ◌∙◌, a
 use Rattle.std.proofs.lemmas.Option.{slice_get_read}
 use Rattle.board_items.specs.Adds.{item_seen}
 use Rattle.board_items.specs.Shapes.{copper_of_item}
-use Rattle.board_items.specs.Segments.{segments_of}
+use Rattle.boundaries.specs.Costs.{boundary_most}
 use Rattle.boundaries.proofs.Walked.{most_of_all}
 use Rattle.boundaries.proofs.Leasts.{AreTouched, touched_not, touched_on, touched_all}
 use Rattle.boundaries.proofs.walks.touched_by.Goals as goal
@@ -12,7 +12,7 @@ pub returns-in_err-push-clause-cost : goal.returns-in_err-push-clause-cost
 returns-in_err-push-clause-cost g c =
     let xs = c.args.live.now in
     let here = slice_get_read xs _ c.loop-fence.fence-index c.fence-item.result refl c.loop-fence-test.true c.fence-item.is in
-    let left = most_of_all (segments_of c.args.stacks.now (item_seen c.args.item)) xs c.loop-fence.fence-index c.fence-item.result c.requires.rising here in
+    let left = most_of_all (boundary_most (copper_of_item c.args.stacks.now (item_seen c.args.item))) xs c.loop-fence.fence-index c.fence-item.result c.requires.rising here in
     omega (arith, left, c.loop-fence.invariant.cost, c.is_touched.ensures.cost)
 
 pub loop-fence-preserved : goal.loop-fence-preserved
@@ -21,7 +21,7 @@ loop-fence-preserved g c =
     let shapes = copper_of_item c.args.stacks.now (item_seen c.args.item) in
     let i = c.loop-fence.fence-index in
     let here = slice_get_read xs _ i c.fence-item.result refl c.loop-fence-test.true c.fence-item.is in
-    let left = most_of_all (segments_of c.args.stacks.now (item_seen c.args.item)) xs i c.fence-item.result c.requires.rising here in record {
+    let left = most_of_all (boundary_most (copper_of_item c.args.stacks.now (item_seen c.args.item))) xs i c.fence-item.result c.requires.rising here in record {
       touched = elim c.if-is_touched.branch [
         | then-is_touched+in_ok-push w ↦ touched_on xs shapes c.loop-fence.ids c.if-is_touched.ids i w.number.result c.fence-item.result c.requires.rising here c.loop-fence.invariant.touched
             (w.if-is_touched.ensures.touches.0 refl) w.number.ensures (w.ids-is ∙ w.in_ok-push.ensures)

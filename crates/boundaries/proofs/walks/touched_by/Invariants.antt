@@ -1,8 +1,7 @@
 use Rattle.std.proofs.Common.{◌≤◌, ◌+◌, take, drop}
 use Rattle.board_items.specs.Adds.{item_seen}
 use Rattle.board_items.specs.Shapes.{copper_of_item}
-use Rattle.board_items.specs.Segments.{segments_of}
-use Rattle.boundaries.specs.Costs.{fences_most}
+use Rattle.boundaries.specs.Costs.{boundary_most, fences_most}
 use Rattle.boundaries.proofs.Leasts.{AreTouched}
 use Rattle.boundaries.proofs.walks.touched_by.Given as goal
 
@@ -10,5 +9,5 @@ use Rattle.boundaries.proofs.walks.touched_by.Given as goal
 abbrev pub invariant-loop-fence : goal.invariant-loop-fence
 invariant-loop-fence g l = record {
   touched : AreTouched (take l.fence-index l.live) (copper_of_item l.stacks (item_seen l.item)) l.ids;
-  cost : l.steps + fences_most (segments_of l.stacks (item_seen l.item)) 0 (drop l.fence-index l.live) ≤ l.initial.steps + fences_most (segments_of l.stacks (item_seen l.item)) 0 l.live;
+  cost : l.steps + fences_most (boundary_most (copper_of_item l.stacks (item_seen l.item))) 0 (drop l.fence-index l.live) ≤ l.initial.steps + fences_most (boundary_most (copper_of_item l.stacks (item_seen l.item))) 0 l.live;
 }
