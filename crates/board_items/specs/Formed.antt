@@ -38,12 +38,12 @@ pub record IsFormedEdit (deletes : List ℕ) (adds : List Add) : Type 0 where
   pub adds_fit : length adds ≤ add_limit
   pub formed : AllByRecursion IsFormedAdd adds
 
--- the numbers of a boundary: 1 to 32 layers, up to 256 points in range and up to 8 clients
+-- the numbers of a boundary: 1 to 32 layers, as many points as a wire may have at most, in range, and up to 8 clients
 pub record IsFormedFence (layers : List ℕ) (area : List Pt) (clients : List ℕ) : Type 0 where
   pub some_layer : 1 ≤ length layers
   pub layers_fit : length layers ≤ layer_limit
   pub layers_in : AllByRecursion (λ l. l < 256) layers
-  pub points_fit : length area ≤ 256
+  pub points_fit : length area ≤ wire_point_limit
   pub in_range : AllByRecursion IsInRange area
   pub clients_fit : length clients ≤ client_limit
   pub clients_in : AllByRecursion (λ c. c < 256) clients
@@ -55,6 +55,7 @@ IsFormed (requests.Release id) = id.0 < 2 ^ 32
 IsFormed (requests.Fence layers area clients) = IsFormedFence layers area clients
 IsFormed (requests.Unfence fence) = fence < 2 ^ 32
 IsFormed (requests.Entitle fence client) = (fence < 2 ^ 32) × (client < 256)
+IsFormed (requests.Rule class clearance) = (class < 2 ^ 32) × (clearance ≤ width_limit_nm)
 
 abbrev pub IsFormedAct : Act → Type 0
 IsFormedAct (acts.Ask request) = IsFormed request
@@ -68,3 +69,4 @@ IsEdit (requests.Release id) = ⊥
 IsEdit (requests.Fence layers area clients) = ⊥
 IsEdit (requests.Unfence fence) = ⊥
 IsEdit (requests.Entitle fence client) = ⊥
+IsEdit (requests.Rule class clearance) = ⊥

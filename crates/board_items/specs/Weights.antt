@@ -22,6 +22,7 @@ weight_of_request (requests.Release id) = 2
 weight_of_request (requests.Fence layers area clients) = 3 + length layers + length clients + 2 * length area
 weight_of_request (requests.Unfence fence) = 2
 weight_of_request (requests.Entitle fence client) = 3
+weight_of_request (requests.Rule class clearance) = 3
 
 abbrev pub weight_of : Act → ℕ
 weight_of (acts.Ask request) = weight_of_request request

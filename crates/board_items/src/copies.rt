@@ -61,6 +61,10 @@ impl Copied for Request {
                 fence: *fence,
                 client: *client,
             }),
+            Request::Rule { class, clearance } => Ok(Request::Rule {
+                class: *class,
+                clearance: *clearance,
+            }),
         }
     }
 }

@@ -71,6 +71,11 @@ pub enum Why {
     NoFence { fence: u32 },
     /// The client doesn't own this boundary.
     NotOwner { fence: u32 },
+    /// The design has no class of this number.
+    NoClass { class: u32 },
+    /// With the new clearance these two items of the board would be nearer than they must keep; the first one has the
+    /// lower number.
+    Unclean { a: ItemId, b: ItemId },
 }
 
 /// What a request is answered.

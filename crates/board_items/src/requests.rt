@@ -62,4 +62,9 @@ pub enum Request {
         fence: u32,
         client: u8,
     },
+    /// Sets the untyped clearance of a class, in nm, 0 to 100,000,000. Class 0 is the structure's rule.
+    Rule {
+        class: u32,
+        clearance: u32,
+    },
 }

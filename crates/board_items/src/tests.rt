@@ -112,6 +112,14 @@ fn acts_weigh_what_they_are(rt: HostRuntime) -> Result<(), Fail> {
         (3, 2),
         "a copied request, and a leave"
     );
+    let rule = Request::Rule {
+        class: 1,
+        clearance: 100_000_000,
+    };
+    let changed = Act::Ask {
+        request: rule.copied()?,
+    };
+    assert_eq!(rt; weight(&changed), 3, "a copied change of a clearance");
     let mut entries = Entries::new(alloc);
     entries.push(Entry {
         number: 1,

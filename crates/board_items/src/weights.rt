@@ -1,6 +1,7 @@
 //! How much of the history an act takes up.
 ghost use Rattle.std.specs.Prelude.{◌≡◌, ◌≤◌, ◌*◌, length, map};
 ghost use Rattle.std.specs.List.{sum, AllByRecursion};
+ghost use Rattle.row_lists.specs.Limits.{add_limit};
 ghost use Rattle.board_items.specs.Formed.{IsFormed, IsFormedAdd, IsFormedAct};
 ghost use Rattle.board_items.specs.Weights.{weight_of, weight_of_add, weight_of_request};
 
@@ -20,7 +21,7 @@ fn add_weight(add: &Add) -> u32
 
 fn adds_weight(adds: &[Add]) -> u32
     requires formed { AllByRecursion IsFormedAdd adds.now }
-    requires few { length adds.now ≤ 64 }
+    requires few { length adds.now ≤ add_limit }
     ensures exact { result ≡ sum (map weight_of_add adds.now) }
     ensures most { result ≤ 516 * length adds.now }
 {
@@ -48,12 +49,13 @@ fn request_weight(request: &Request) -> u32
         } => 3 + layers.len() as u32 + clients.len() as u32 + 2 * area.len() as u32,
         Request::Unfence { .. } => 2,
         Request::Entitle { .. } => 3,
+        Request::Rule { .. } => 3,
     }
 }
 
 /// How much of the history an act takes up: an edit 2, plus 1 for each delete, 4 plus twice its points for each
-/// wire and 4 for each via; a boundary 3 plus its layers, its clients and twice its points; an `entitle` 3; all
-/// else 2.
+/// wire and 4 for each via; a boundary 3 plus its layers, its clients and twice its points; an `entitle` and a
+/// `rule` 3; all else 2.
 pub fn weight(act: &Act) -> u32
     requires { IsFormedAct act.now }
     ensures { result ≡ weight_of act.now }

@@ -12,9 +12,11 @@ use Rattle.board_rules.specs.declared.design.Stated.{Stated}
 use Rattle.board_rules.specs.declared.design.Parts.{Parts}
 use Rattle.board_rules.specs.declared.needs.Role.{Role}
 use Rattle.board_rules.specs.declared.needs.Role.TheVariants.{Copper, Keepout}
-use Rattle.board_rules.specs.Classes.{same_kind, same_what, or_else, or_zero, value_of, is_one_smd, untyped_of, untyped_at, own_value, stated_in, class_of, class_value}
+use Rattle.board_rules.specs.Classes.{same_kind, same_what, or_else, or_zero, value_of, is_one_smd, untyped_at, own_value, stated_in, class_of, value_in}
+use Rattle.board_rules.specs.Pairs.{name_of, pair_rows, given_by, between, pair_value}
 use Rattle.board_items.specs.Adds.{is_fixed}
-use Rattle.board_rules.specs.Needs.{gap_of, need_of, role_of, net_of, is_same_net}
+use Rattle.board_rules.specs.Needs.{or_number, copper_gap, gap_of, need_in, role_of, net_of, is_same_net}
+use Rattle.board_rules.proofs.Named.{named_turned}
 
 pair_turned : (what : What) (k l : Kind) → same_what what (whats.Pair k l) ≡ same_what what (whats.Pair l k)
 pair_turned whats.Untyped k l = refl
@@ -33,12 +35,26 @@ own_turned p us class k l =
     let rows = stated_in (slice_get p.classes class) in
     λ i. or_else (or_else (value_turned rows k l i) (if smd_turned k l i then value_of whats.DefaultSmd rows else None)) (untyped_at us class)
 
-class_turned : (p : Parts) (us : List (Option ℕ)) (net : Option ℕ) (k l : Kind) → class_value p us net k l ≡ class_value p us net l k
-class_turned p us net k l = λ i. or_zero (or_else (own_turned p us (class_of p net) k l i) (own_turned p us 0 k l i))
+value_in_turned : (p : Parts) (us : List (Option ℕ)) (class : ℕ) (k l : Kind) → value_in p us class k l ≡ value_in p us class l k
+value_in_turned p us class k l = λ i. or_zero (or_else (own_turned p us class k l i) (own_turned p us 0 k l i))
+
+given_turned : (rows : List Stated) (k l : Kind) → given_by rows k l ≡ given_by rows l k
+given_turned rows k l = λ i. or_else (or_else (value_turned rows k l i) (if smd_turned k l i then value_of whats.DefaultSmd rows else None)) (value_of whats.Untyped rows)
+
+between_turned : (p : Parts) (c d : ℕ) (k l : Kind) → between p c d k l ≡ between p d c l k
+between_turned p c d k l = ap (λ (rows : List Stated). given_by rows k l) (named_turned p (name_of p c) (name_of p d)) ∙ given_turned (pair_rows p d c) k l
+
+pair_value_turned : (p : Parts) (c d : ℕ) (k l : Kind) → pair_value p c d k l ≡ pair_value p d c l k
+pair_value_turned p c d k l = λ i. if or_comm (c == 0) (d == 0) i then None else between_turned p c d k l i
+
+larger_turned : (p : Parts) (us : List (Option ℕ)) (c d : ℕ) (k l : Kind) → max (value_in p us c k l) (value_in p us d k l) ≡ max (value_in p us d l k) (value_in p us c l k)
+larger_turned p us c d k l = max_comm (value_in p us c k l) (value_in p us d k l) ∙ (λ i. max (value_in_turned p us d k l i) (value_in_turned p us c k l i))
+
+copper_turned : (p : Parts) (us : List (Option ℕ)) (k : Kind) (c : ℕ) (l : Kind) (d : ℕ) → copper_gap p us k c l d ≡ copper_gap p us l d k c
+copper_turned p us k c l d = λ i. max 1 (or_number (pair_value_turned p c d k l i) (larger_turned p us c d k l i))
 
 gap_turned : (p : Parts) (us : List (Option ℕ)) (a : Role) (net : Option ℕ) (b : Role) (other : Option ℕ) → gap_of p us a net b other ≡ gap_of p us b other a net
-gap_turned p us (Copper k) net (Copper l) other =
-    ap (λ n. Some (max 1 n)) (max_comm (class_value p us net k l) (class_value p us other k l) ∙ (λ i. max (class_turned p us other k l i) (class_turned p us net k l i)))
+gap_turned p us (Copper k) net (Copper l) other = ap Some (copper_turned p us k (class_of p net) l (class_of p other))
 gap_turned p us (Copper k) net (Keepout keep) other = refl
 gap_turned p us (Keepout keep) net (Copper l) other = refl
 gap_turned p us (Keepout keep) net (Keepout other_keep) other = refl
@@ -53,6 +69,6 @@ net_turned (Some n) None = refl
 net_turned (Some n) (Some m) = number_turned n m
 
 -- two items have the same need both ways round
-pub need_turned : (p : Parts) (a b : Item) → need_of p a b ≡ need_of p b a
-need_turned p a b = λ i.
-    if net_turned (net_of a) (net_of b) i || and_comm (is_fixed a) (is_fixed b) i then None else gap_turned p (untyped_of p) (role_of a) (net_of a) (role_of b) (net_of b) i
+pub need_turned : (p : Parts) (us : List (Option ℕ)) (a b : Item) → need_in p us a b ≡ need_in p us b a
+need_turned p us a b = λ i.
+    if net_turned (net_of a) (net_of b) i || and_comm (is_fixed a) (is_fixed b) i then None else gap_turned p us (role_of a) (net_of a) (role_of b) (net_of b) i

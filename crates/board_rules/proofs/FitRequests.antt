@@ -130,12 +130,13 @@ adds_fit p a (add ∷ rest) sound formed none =
     (add_fits p a add sound formed.0 parts.0, adds_fit p (a + 1) rest sound formed.1 parts.1)
 
 -- the adds of a request against which there is no reason are fit
-pub request_fits : (p : Parts) (clients : ℕ) (request : Request) → IsSound p → IsFormed request → IsStaticReason p clients request None → HasFitAdds p request
-request_fits p clients (requests.Edit deletes all) sound formed none =
-    let later = no_first ((deletes ≡ []) × (all ≡ [])) whys.Empty (Then (IsAddsReason p 1 all) (IsOwnReason p 1 all)) none in
-    adds_fit p 1 all sound formed.formed (no_then (IsAddsReason p 1 all) (IsOwnReason p 1 all) later.1).0
-request_fits p clients (requests.Reserve id) sound formed none = tt
-request_fits p clients (requests.Release id) sound formed none = tt
-request_fits p clients (requests.Fence layers area entitled) sound formed none = tt
-request_fits p clients (requests.Unfence fence) sound formed none = tt
-request_fits p clients (requests.Entitle fence client) sound formed none = tt
+pub request_fits : (p : Parts) (us : List (Option ℕ)) (clients : ℕ) (request : Request) → IsSound p → IsFormed request → IsStaticReason p us clients request None → HasFitAdds p request
+request_fits p us clients (requests.Edit deletes all) sound formed none =
+    let later = no_first ((deletes ≡ []) × (all ≡ [])) whys.Empty (Then (IsAddsReason p 1 all) (IsOwnReason p us 1 all)) none in
+    adds_fit p 1 all sound formed.formed (no_then (IsAddsReason p 1 all) (IsOwnReason p us 1 all) later.1).0
+request_fits p us clients (requests.Reserve id) sound formed none = tt
+request_fits p us clients (requests.Release id) sound formed none = tt
+request_fits p us clients (requests.Fence layers area entitled) sound formed none = tt
+request_fits p us clients (requests.Unfence fence) sound formed none = tt
+request_fits p us clients (requests.Entitle fence client) sound formed none = tt
+request_fits p us clients (requests.Rule class clearance) sound formed none = tt

@@ -1,9 +1,15 @@
+pub mod Named
 pub mod Gaps
 pub mod BothWays
 pub mod Stating
+pub mod Ruled
+pub mod Numbering
+pub mod Texts
+pub mod Keyed
 pub mod Walked
 pub mod Cores
 pub mod Same
 pub mod Counts
 pub mod Cells
 pub mod FitRequests
+pub mod NearItems

@@ -1,5 +1,5 @@
 -- What a class of nets states for widths, vias and clearances, in nanometres. Cited by `need`, `largest_clearance` and `static_why`
-use Rattle.std.specs.Prelude.{ℕ, ◌&&◌, ◌||◌, Option, Some, None, Bool, true, false, not, if◌then◌else◌, max, List, [], ◌∷◌, slice_get, get_or, map}
+use Rattle.std.specs.Prelude.{ℕ, ◌&&◌, ◌||◌, Option, Some, None, Bool, true, false, not, if◌then◌else◌, max, List, [], ◌∷◌, slice_get, get_or, map, filter}
 use Rattle.board_rules.specs.declared.design.Kind.{Kind}
 use Rattle.board_rules.specs.declared.design.Kind.TheVariants as kinds
 use Rattle.board_rules.specs.declared.design.What.{What}
@@ -89,9 +89,9 @@ or_zero (Some n) = n
 abbrev pub own_value : Parts → List (Option ℕ) → ℕ → Kind → Kind → Option ℕ
 own_value p untyped class k l = or_else (typed_value (stated_in (slice_get p.classes class)) k l) (untyped_at untyped class)
 
--- what the class of a net gives two kinds with these untyped values: its own statements, then the structure's, then 0
-abbrev pub class_value : Parts → List (Option ℕ) → Option ℕ → Kind → Kind → ℕ
-class_value p untyped net k l = or_zero (or_else (own_value p untyped (class_of p net) k l) (own_value p untyped 0 k l))
+-- what a class gives two kinds with these untyped values: its own statements, then the structure's, then 0
+abbrev pub value_in : Parts → List (Option ℕ) → ℕ → Kind → Kind → ℕ
+value_in p untyped class k l = or_zero (or_else (own_value p untyped class k l) (own_value p untyped 0 k l))
 
 -- the least width of a net's wires: its class's, then the structure's, then 0
 abbrev pub width_of : Parts → ℕ → ℕ
@@ -116,11 +116,16 @@ largest_given rows (s ∷ rest) = max (or_zero (value_of s.what rows)) (largest_
 abbrev pub largest_in : List Stated → ℕ
 largest_in rows = largest_given rows rows
 
--- the largest value that one of these classes states
-abbrev pub largest_over : List ClassRow → ℕ
-largest_over [] = 0
-largest_over (c ∷ rest) = max (largest_in c.clearances) (largest_over rest)
+-- a statement is of more than all for which nothing closer is stated
+abbrev pub is_typed : Stated → Bool
+is_typed s = not (same_what s.what whats.Untyped)
 
--- the largest clearance that a class states, at least 1
-abbrev pub largest_of : Parts → ℕ
-largest_of p = max 1 (largest_over p.classes)
+-- the largest value that one of these classes states, but for the untyped ones
+abbrev pub largest_typed : List ClassRow → ℕ
+largest_typed [] = 0
+largest_typed (c ∷ rest) = max (largest_in (filter is_typed c.clearances)) (largest_typed rest)
+
+-- the largest of these rules
+abbrev pub largest_rule : List (Option ℕ) → ℕ
+largest_rule [] = 0
+largest_rule (r ∷ rest) = max (or_zero r) (largest_rule rest)

@@ -16,6 +16,7 @@ use Rattle.board_items.specs.Shapes.{copper_of_item}
 use Rattle.board_rules.specs.declared.design.Stated.{Stated}
 use Rattle.board_rules.specs.declared.design.ClassRow.{ClassRow}
 use Rattle.board_rules.specs.declared.design.NetRow.{NetRow}
+use Rattle.board_rules.specs.declared.design.PairRow.{PairRow}
 use Rattle.board_rules.specs.declared.design.Parts.{Parts}
 
 -- a number in nm that a width or clearance may have, where there is one
@@ -60,6 +61,12 @@ pub record IsFitClass (stacks : ℕ) (c : ClassRow) : Type 0 where
   pub vias : AreThere stacks c.vias
   pub clearances : AllByRecursion (λ (s : Stated). s.value ≤ width_limit_nm) c.clearances
 
+-- a pair names classes that are there, and its sizes are within the limits
+pub record IsFitPair (classes : ℕ) (r : PairRow) : Type 0 where
+  pub one : r.a < classes
+  pub other : r.b < classes
+  pub clearances : AllByRecursion (λ (s : Stated). s.value ≤ width_limit_nm) r.clearances
+
 -- an item names a layer, a net and a padstack that are there
 abbrev pub NamesThere : Parts → Item → Type 0
 NamesThere p (items.Wire net layer width points fix) = (net < length p.nets) × (layer < length p.layers)
@@ -78,6 +85,7 @@ pub record IsFitItem (p : Parts) (i : Item) : Type 0 where
 -- a design: there is a class 0, each number names a thing that is there, and all is within the limits
 pub record IsSound (p : Parts) : Type 0 where
   pub some_class : 0 < length p.classes
+  pub few_classes : length p.classes < 2 ^ 32
   pub few_layers : length p.layers ≤ layer_limit
   pub few_nets : length p.nets ≤ net_limit
   pub few_stacks : length p.stacks ≤ padstack_limit
@@ -85,6 +93,7 @@ pub record IsSound (p : Parts) : Type 0 where
   pub few_items : length p.items ≤ item_limit
   pub nets : AllByRecursion (λ (n : NetRow). n.class < length p.classes) p.nets
   pub classes : AllByRecursion (IsFitClass (length p.stacks)) p.classes
+  pub pairs : AllByRecursion (IsFitPair (length p.classes)) p.pairs
   pub stacks : AllByRecursion (λ (s : Padstack). AllByRecursion (IsFitShape (length p.layers)) s.shapes) p.stacks
   pub few_shapes : AllByRecursion (λ (s : Padstack). length s.shapes < 2 ^ 32) p.stacks
   pub outline : AllByRecursion IsFitArea p.outline

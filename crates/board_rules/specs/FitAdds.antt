@@ -22,3 +22,4 @@ HasFitAdds p (requests.Release id) = Unit {0}
 HasFitAdds p (requests.Fence layers area clients) = Unit {0}
 HasFitAdds p (requests.Unfence fence) = Unit {0}
 HasFitAdds p (requests.Entitle fence client) = Unit {0}
+HasFitAdds p (requests.Rule class clearance) = Unit {0}

@@ -1,8 +1,13 @@
 pub mod Designs
 pub mod Classes
 pub mod Tables
+pub mod Rules
+pub mod Pairs
+pub mod Numbers
+pub mod PairTables
 pub mod Needs
 pub mod Reasons
 pub mod FitAdds
 pub mod Costs
 pub mod OneProof
+pub mod NearItems

@@ -16,7 +16,8 @@ use Rattle.board_rules.specs.declared.design.Kind.TheVariants as kinds
 use Rattle.board_rules.specs.declared.design.Parts.{Parts}
 use Rattle.board_rules.specs.declared.needs.Role.{Role}
 use Rattle.board_rules.specs.declared.needs.Role.TheVariants.{Copper, Keepout}
-use Rattle.board_rules.specs.Classes.{untyped_of, class_value}
+use Rattle.board_rules.specs.Classes.{untyped_of, class_of, value_in, largest_typed, largest_rule}
+use Rattle.board_rules.specs.Pairs.{pair_value, largest_paired}
 
 -- the shapes lie on exactly one layer
 abbrev pub is_on_one_layer : List Shape → Bool
@@ -54,21 +55,29 @@ bars _ _ = false
 abbrev pub barred : KeepKind → Kind → Option ℕ
 barred keep kind = if bars keep kind then Some 1 else None
 
--- what two roles must keep, of items of these nets, with these untyped values of the classes: between copper the largest
--- of 1 nm and both classes' values
+-- the number that is there, else the other one
+abbrev pub or_number : Option ℕ → ℕ → ℕ
+or_number (Some n) other = n
+or_number None other = other
+
+-- what copper of these kinds and classes must keep under these rules: what the pair of the classes states, else the
+-- larger of both classes' values; at least 1 nm
+abbrev pub copper_gap : Parts → List (Option ℕ) → Kind → ℕ → Kind → ℕ → ℕ
+copper_gap p rules k c l d = max 1 (or_number (pair_value p c d k l) (max (value_in p rules c k l) (value_in p rules d k l)))
+
+-- what two roles must keep under these rules, of items of these nets
 abbrev pub gap_of : Parts → List (Option ℕ) → Role → Option ℕ → Role → Option ℕ → Option ℕ
-gap_of p untyped (Copper k) net (Copper l) other = Some (max 1 (max (class_value p untyped net k l) (class_value p untyped other k l)))
-gap_of p untyped (Copper k) net (Keepout keep) other = barred keep k
-gap_of p untyped (Keepout keep) net (Copper l) other = barred keep l
-gap_of p untyped (Keepout keep) net (Keepout other_keep) other = None
+gap_of p rules (Copper k) net (Copper l) other = Some (copper_gap p rules k (class_of p net) l (class_of p other))
+gap_of p rules (Copper k) net (Keepout keep) other = barred keep k
+gap_of p rules (Keepout keep) net (Copper l) other = barred keep l
+gap_of p rules (Keepout keep) net (Keepout other_keep) other = None
 
--- the clearance that two items must keep with these untyped values of the classes, or none: none within a net, and none
--- between two fixed ones
+-- the clearance that two items must keep under these rules, or none: none within a net, and none between two fixed ones
 abbrev pub need_in : Parts → List (Option ℕ) → Item → Item → Option ℕ
-need_in p untyped a b =
-    if is_same_net (net_of a) (net_of b) || (is_fixed a && is_fixed b) then None else gap_of p untyped (role_of a) (net_of a) (role_of b) (net_of b)
+need_in p rules a b =
+    if is_same_net (net_of a) (net_of b) || (is_fixed a && is_fixed b) then None else gap_of p rules (role_of a) (net_of a) (role_of b) (net_of b)
 
--- the clearance that two items must keep, with the untyped values that the classes state
+-- the clearance that two items must keep under the rules that a design starts with
 abbrev pub need_of : Parts → Item → Item → Option ℕ
 need_of p a b = need_in p (untyped_of p) a b
 
@@ -81,6 +90,14 @@ abbrev pub Keeps : List Padstack → Item → Item → Option ℕ → Type 0
 Keeps stacks a b None = ⊤
 Keeps stacks a b (Some c) = AreApart stacks a b c
 
--- two items have no need, or keep it
-pub record KeepsNeed (p : Parts) (a b : Item) : Type 0 where
-  pub keeps : Keeps p.stacks a b (need_of p a b)
+-- two items have no need under these rules, or keep it
+pub record KeepsNeed (p : Parts) (rules : List (Option ℕ)) (a b : Item) : Type 0 where
+  pub keeps : Keeps p.stacks a b (need_in p rules a b)
+
+-- the largest clearance that a class states for more than all, and that a pair of classes states; at least 1
+abbrev pub largest_stated : Parts → ℕ
+largest_stated p = max 1 (max (largest_typed p.classes) (largest_paired p p.pairs))
+
+-- the largest clearance under these rules, at least 1
+abbrev pub largest_of : Parts → List (Option ℕ) → ℕ
+largest_of p rules = max (largest_stated p) (largest_rule rules)

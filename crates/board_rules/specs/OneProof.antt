@@ -9,8 +9,9 @@ use Rattle.area_geometry.specs.declared.shapes.Shape.{Shape}
 use Rattle.board_items.specs.declared.items.Item.{Item}
 use Rattle.board_items.specs.declared.items.Item.TheVariants as items
 use Rattle.board_rules.specs.declared.design.ClassRow.{ClassRow}
+use Rattle.board_rules.specs.declared.design.PairRow.{PairRow}
 use Rattle.board_rules.specs.declared.design.Parts.{Parts}
-use Rattle.board_rules.specs.Designs.{IsFitSize, AreThere, HasCore, IsFitShape, IsFitClass, NamesThere, IsFitItem, IsSound}
+use Rattle.board_rules.specs.Designs.{IsFitSize, AreThere, HasCore, IsFitShape, IsFitClass, IsFitPair, NamesThere, IsFitItem, IsSound}
 
 all_prop : {T : Type 0} (P : T → Type 0) → ((x : T) → IsProp (P x)) → (xs : List T) → IsProp (AllByRecursion P xs)
 all_prop P one [] = Unit-prop
@@ -34,6 +35,9 @@ shape_prop layers s = Prim.hlevel (le_prop, core_prop, all_prop)
 class_prop : (stacks : ℕ) (c : ClassRow) → IsProp (IsFitClass stacks c)
 class_prop stacks c = Prim.hlevel (le_prop, size_prop, there_prop, all_prop)
 
+pair_prop : (classes : ℕ) (r : PairRow) → IsProp (IsFitPair classes r)
+pair_prop classes r = Prim.hlevel (le_prop, all_prop)
+
 names_prop : (p : Parts) (i : Item) → IsProp (NamesThere p i)
 names_prop p (items.Wire net layer width points fix) = Prim.hlevel (le_prop)
 names_prop p (items.Via net padstack place fix) = Prim.hlevel (le_prop)
@@ -45,4 +49,4 @@ item_prop : (p : Parts) (i : Item) → IsProp (IsFitItem p i)
 item_prop p i = Prim.hlevel (le_prop, names_prop)
 
 pub IsSound-prop : (p : Parts) → IsProp (IsSound p)
-IsSound-prop p = Prim.hlevel (le_prop, all_prop, shape_prop, class_prop, item_prop)
+IsSound-prop p = Prim.hlevel (le_prop, all_prop, shape_prop, class_prop, pair_prop, item_prop)

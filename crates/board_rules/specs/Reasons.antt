@@ -67,14 +67,14 @@ IsAddsReason p a [] = Nothing
 IsAddsReason p a (add ∷ rest) = Then (IsAddReason p a add) (IsAddsReason p (a + 1) rest)
 
 -- the first of the adds behind add a, the first of which has number b, that is too near to the item of add a
-abbrev pub IsNearReason : Parts → ℕ → Item → ℕ → List Add → Option Why → Type 0
-IsNearReason p a item b [] = Nothing
-IsNearReason p a item b (other ∷ rest) = First (KeepsNeed p item (item_of_add other) → ⊥) (whys.Own a b) (IsNearReason p a item (b + 1) rest)
+abbrev pub IsNearReason : Parts → List (Option ℕ) → ℕ → Item → ℕ → List Add → Option Why → Type 0
+IsNearReason p rules a item b [] = Nothing
+IsNearReason p rules a item b (other ∷ rest) = First (KeepsNeed p rules item (item_of_add other) → ⊥) (whys.Own a b) (IsNearReason p rules a item (b + 1) rest)
 
 -- the least pair of adds that are too near, by the lower number and then the higher one
-abbrev pub IsOwnReason : Parts → ℕ → List Add → Option Why → Type 0
-IsOwnReason p a [] = Nothing
-IsOwnReason p a (add ∷ rest) = Then (IsNearReason p a (item_of_add add) (a + 1) rest) (IsOwnReason p (a + 1) rest)
+abbrev pub IsOwnReason : Parts → List (Option ℕ) → ℕ → List Add → Option Why → Type 0
+IsOwnReason p rules a [] = Nothing
+IsOwnReason p rules a (add ∷ rest) = Then (IsNearReason p rules a (item_of_add add) (a + 1) rest) (IsOwnReason p rules (a + 1) rest)
 
 -- the first layer that isn't there
 abbrev pub IsLayerReason : Parts → List ℕ → Option Why → Type 0
@@ -86,13 +86,14 @@ abbrev pub IsClientReason : ℕ → List ℕ → Option Why → Type 0
 IsClientReason clients [] = Nothing
 IsClientReason clients (c ∷ rest) = First ((c ≡ 0) ⊎ (clients < c)) (whys.Client c) (IsClientReason clients rest)
 
--- the first reason against a request that doesn't depend on the board
-abbrev pub IsStaticReason : Parts → ℕ → Request → Option Why → Type 0
-IsStaticReason p clients (requests.Edit deletes all) =
-    First ((deletes ≡ []) × (all ≡ [])) whys.Empty (Then (IsAddsReason p 1 all) (IsOwnReason p 1 all))
-IsStaticReason p clients (requests.Fence layers area entitled) =
+-- the first reason under these rules against a request that doesn't depend on the board
+abbrev pub IsStaticReason : Parts → List (Option ℕ) → ℕ → Request → Option Why → Type 0
+IsStaticReason p rules clients (requests.Edit deletes all) =
+    First ((deletes ≡ []) × (all ≡ [])) whys.Empty (Then (IsAddsReason p 1 all) (IsOwnReason p rules 1 all))
+IsStaticReason p rules clients (requests.Fence layers area entitled) =
     First (length area < 3) whys.Area (Then (IsLayerReason p layers) (IsClientReason clients entitled))
-IsStaticReason p clients (requests.Reserve id) = Nothing
-IsStaticReason p clients (requests.Release id) = Nothing
-IsStaticReason p clients (requests.Unfence fence) = Nothing
-IsStaticReason p clients (requests.Entitle fence client) = Nothing
+IsStaticReason p rules clients (requests.Rule class clearance) = First (length p.classes ≤ class) (whys.NoClass class) Nothing
+IsStaticReason p rules clients (requests.Reserve id) = Nothing
+IsStaticReason p rules clients (requests.Release id) = Nothing
+IsStaticReason p rules clients (requests.Unfence fence) = Nothing
+IsStaticReason p rules clients (requests.Entitle fence client) = Nothing

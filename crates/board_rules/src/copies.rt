@@ -1,7 +1,7 @@
 //! Copies of designs. Their one error is want of memory.
 ghost use Rattle.std.specs.Prelude.{◌≡◌, IfOk};
 
-use crate::design::{ClassRow, Design, NetRow, Parts};
+use crate::design::{ClassRow, Design, NetRow, PairRow, Parts};
 use row_lists::Copied;
 use std::alloc::AllocError;
 
@@ -25,6 +25,16 @@ impl Copied for ClassRow {
     }
 }
 
+impl Copied for PairRow {
+    fn copied(&self) -> Result<PairRow, AllocError> {
+        Ok(PairRow {
+            a: self.a,
+            b: self.b,
+            clearances: self.clearances.copied()?,
+        })
+    }
+}
+
 impl Copied for Parts {
     fn copied(&self) -> Result<Parts, AllocError> {
         Ok(Parts {
@@ -33,6 +43,7 @@ impl Copied for Parts {
             stacks: self.stacks.copied()?,
             nets: self.nets.copied()?,
             classes: self.classes.copied()?,
+            pairs: self.pairs.copied()?,
             outline: self.outline.copied()?,
             items: self.items.copied()?,
         })

@@ -1,13 +1,19 @@
 //! The design that a board is made of.
 ghost use Rattle.std.specs.Prelude.{◌≡◌, ◌<◌, ◌≤◌, ◌^◌, length, slice_get, Some, IfOk, IfSome};
+ghost use Rattle.row_lists.specs.Limits.{width_limit_nm};
 ghost use Rattle.board_rules.specs.Designs.{IsSound};
 ghost use Rattle.board_rules.specs.OneProof.{IsSound-prop};
-ghost use Rattle.board_rules.specs.Classes.{untyped_of, largest_of};
+ghost use Rattle.board_rules.specs.Classes.{untyped_of};
+ghost use Rattle.board_rules.specs.Needs.{largest_stated, largest_of};
 ghost use Rattle.board_rules.specs.Tables.{tables_of};
+ghost use Rattle.board_rules.specs.PairTables.{pair_tables_of};
+ghost use Rattle.board_rules.specs.Rules.{under, IsFitView};
 ghost use Rattle.std.proofs.Props.{props};
 
-use crate::largest::largest_of;
-use crate::tables::{KindTable, tables_of, untyped_in};
+use crate::clearances::{Rules, RulesView};
+use crate::largest::largest_stated;
+use crate::pair_tables::PairTables;
+use crate::tables::{KindTable, tables_of};
 use board_items::{Items, Stacks};
 use layout_io::Name;
 use row_lists::{Copied, Row};
@@ -70,6 +76,18 @@ pub struct ClassRow {
 /// Classes in the design's order. Class 0 is the structure's rule, with an empty name.
 pub type ClassRows = Row<ClassRow>;
 
+/// What two classes must keep from each other, in place of what each of them states: for the pair of their names, so that
+/// all classes of these names are such a pair.
+#[derive(Debug, Drop)]
+pub struct PairRow {
+    pub a: u32,
+    pub b: u32,
+    pub clearances: StatedRows,
+}
+
+/// Pairs of classes in the design's order. Of those that state the same thing for the same two names the last one holds.
+pub type PairRows = Row<PairRow>;
+
 /// A net and its class, which is 0 where no class names it.
 #[derive(Debug, Drop)]
 pub struct NetRow {
@@ -88,6 +106,8 @@ pub struct Parts {
     pub stacks: Stacks,
     pub nets: NetRows,
     pub classes: ClassRows,
+    /// What holds between two classes.
+    pub pairs: PairRows,
     /// The areas in which copper has to lie; without one it may lie anywhere.
     pub outline: Areas,
     /// The loaded items in the order of their numbers.
@@ -100,12 +120,14 @@ pub struct Parts {
 pub struct Design {
     pub(crate) parts: Parts,
     pub(crate) tables: Row<KindTable>,
-    pub(crate) untyped: Row<Option<u32>>,
-    pub(crate) largest: u32,
+    pub(crate) pairs: PairTables,
+    start: Rules,
+    largest: u32,
     pub ghost sound: { IsSound parts } by { IsSound-prop parts },
     ghost tabled: { tables ≡ tables_of parts.classes } by { Prim.hlevel props },
-    ghost untyped_is: { untyped ≡ untyped_of parts } by { Prim.hlevel props },
-    ghost largest_is: { largest ≡ largest_of parts },
+    ghost paired: { pairs ≡ pair_tables_of parts } by { Prim.hlevel props },
+    ghost start_is: { start ≡ untyped_of parts } by { Prim.hlevel props },
+    ghost largest_is: { largest ≡ largest_stated parts },
 }
 
 impl Design {
@@ -116,12 +138,14 @@ impl Design {
     {
         let alloc = parts.classes.allocator();
         let tables = tables_of(alloc, parts.classes.as_slice())?;
-        let untyped = untyped_in(alloc, parts.classes.as_slice())?;
-        let largest = largest_of(&parts);
+        let pairs = PairTables::of_parts(&parts)?;
+        let start = Rules::of_parts(&parts)?;
+        let largest = largest_stated(&parts, &pairs);
         Ok(Design {
             parts,
             tables,
-            untyped,
+            pairs,
+            start,
             largest,
         })
     }
@@ -140,12 +164,30 @@ impl Design {
         &self.parts.name
     }
 
-    /// The largest clearance in nm that any class states, at least 1. A statement that a later one of the same thing
-    /// replaces states nothing.
-    pub fn largest_clearance(&self) -> u32
-        ensures { result ≡ largest_of self.now.parts }
+    /// The rules that a board of the design starts with: what its classes state. It takes no memory.
+    pub fn start_rules(&self) -> &Rules
+        ensures { result.now ≡ untyped_of self.now.parts }
     {
-        self.largest
+        &self.start
+    }
+
+    /// How many classes the design has, the structure's rule included.
+    pub fn class_count(&self) -> u32
+        ensures { result ≡ length self.now.parts.classes }
+    {
+        self.parts.classes.len() as u32
+    }
+
+    /// The largest clearance in nm under these rules, at least 1: of the rules, and of what a class states for more than
+    /// all, or a pair of classes for anything. A statement that a later one of the same thing replaces states nothing. It
+    /// takes no memory, and a look at each class's rule.
+    pub fn largest_clearance(&self, rules: RulesView<'_>) -> u32
+        requires { IsFitView self.now.parts rules }
+        ensures largest { result ≡ largest_of self.now.parts (under rules.entry) }
+        ensures limit { result ≤ width_limit_nm }
+    {
+        rules.keep_limits();
+        self.largest.max(rules.largest())
     }
 
     /// How many layers the design has.

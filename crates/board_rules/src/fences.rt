@@ -1,5 +1,5 @@
 //! The first reason against a boundary that doesn't depend on the board.
-ghost use Rattle.std.specs.Prelude.{ℕ};
+ghost use Rattle.std.specs.Prelude.{ℕ, List, Option};
 ghost use Rattle.board_rules.specs.Reasons.{IsLayerReason, IsClientReason, IsStaticReason};
 
 use crate::design::Design;
@@ -42,7 +42,7 @@ impl Design {
         entitled: &[u8],
         clients: u8,
     ) -> Option<Why>
-        ensures { IsStaticReason self.now.parts clients (Request.Fence layers.now area.now entitled.now) result }
+        ensures { (rules : List (Option ℕ)) → IsStaticReason self.now.parts rules clients (Request.Fence layers.now area.now entitled.now) result }
     {
         if area.len() < 3 {
             return Some(Why::Area);

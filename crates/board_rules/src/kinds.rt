@@ -63,7 +63,7 @@ pub fn value_of(rows: &[Stated], what: What) -> Option<u32>
 }
 
 // Whether exactly one of the two is a pad on one layer.
-fn is_one_smd(k: Kind, l: Kind) -> bool
+pub(crate) fn is_one_smd(k: Kind, l: Kind) -> bool
     ensures { result ≡ is_one_smd k l }
 {
     same_kind(k, Kind::Smd) && !same_kind(l, Kind::Smd)

@@ -1,10 +1,13 @@
 //! The clearance that two items must keep.
-ghost use Rattle.std.specs.Prelude.{◌≡◌, ◌==◌, slice_get, max, if◌then◌else◌};
+ghost use Rattle.std.specs.Prelude.{◌≡◌, ◌==◌, slice_get, if◌then◌else◌};
 ghost use Rattle.std.specs.List.{list_all};
 ghost use Rattle.board_items.specs.Adds.{item_seen};
-ghost use Rattle.board_rules.specs.Classes.{typed_value, stated_in, untyped_of, untyped_at, own_value, class_in, class_of, class_value};
-ghost use Rattle.board_rules.specs.Needs.{is_on_one_layer, role_of, net_of, is_same_net, bars, barred, gap_of, need_of};
+ghost use Rattle.board_rules.specs.Classes.{typed_value, stated_in, own_value, value_in, class_in, class_of};
+ghost use Rattle.board_rules.specs.Pairs.{pair_value};
+ghost use Rattle.board_rules.specs.Rules.{under};
+ghost use Rattle.board_rules.specs.Needs.{is_on_one_layer, role_of, net_of, is_same_net, bars, barred, copper_gap, gap_of, need_in};
 
+use crate::clearances::RulesView;
 use crate::design::{Design, Kind, NetRows};
 use crate::kinds::or_else;
 use crate::tables::cell_at;
@@ -125,16 +128,6 @@ impl Design {
         }
     }
 
-    // The untyped value of a class.
-    fn untyped(&self, class: u32) -> Option<u32>
-        ensures { result ≡ untyped_at (untyped_of self.now.parts) class }
-    {
-        match self.untyped.as_slice().get(class as usize) {
-            None => None,
-            Some(value) => *value,
-        }
-    }
-
     // What a class states for two kinds but for its untyped value.
     fn typed(&self, class: u32, k: Kind, l: Kind) -> Option<u32>
         ensures { result ≡ typed_value (stated_in (slice_get self.now.parts.classes class)) k l }
@@ -142,36 +135,60 @@ impl Design {
         cell_at(&self.tables, class, k, l)
     }
 
-    // What a class gives two kinds.
-    fn own_value(&self, class: u32, k: Kind, l: Kind) -> Option<u32>
-        ensures { result ≡ own_value self.now.parts (untyped_of self.now.parts) class k l }
+    // What a class gives two kinds under these rules.
+    fn own_value(&self, rules: RulesView<'_>, class: u32, k: Kind, l: Kind) -> Option<u32>
+        ensures { result ≡ own_value self.now.parts (under rules.entry) class k l }
     {
-        or_else(self.typed(class, k, l), self.untyped(class))
+        or_else(self.typed(class, k, l), rules.untyped(class as usize))
     }
 
-    // What the class of a net gives two kinds: its own statements, then the structure's, then 0.
-    fn class_value(&self, net: Option<u32>, k: Kind, l: Kind) -> u32
-        ensures { result ≡ class_value self.now.parts (untyped_of self.now.parts) net k l }
+    // What a class gives two kinds under these rules: its own statements, then the structure's, then 0.
+    fn class_value(&self, rules: RulesView<'_>, class: u32, k: Kind, l: Kind) -> u32
+        ensures { result ≡ value_in self.now.parts (under rules.entry) class k l }
     {
-        let own = self.own_value(self.class_of(net), k, l);
-        or_else(own, self.own_value(0, k, l)).unwrap_or(0)
+        let own = self.own_value(rules, class, k, l);
+        or_else(own, self.own_value(rules, 0, k, l)).unwrap_or(0)
     }
 
-    // What copper of two nets must keep.
-    fn copper_gap(&self, k: Kind, net: Option<u32>, l: Kind, other: Option<u32>) -> u32
-        ensures { let us = untyped_of self.now.parts in result ≡ max 1 (max (class_value self.now.parts us net k l) (class_value self.now.parts us other k l)) }
+    // What is stated for two classes and these kinds.
+    fn pair_value(&self, c: u32, d: u32, k: Kind, l: Kind) -> Option<u32>
+        ensures { result ≡ pair_value self.now.parts c d k l }
     {
-        let own = self.class_value(net, k, l);
-        1u32.max(own.max(self.class_value(other, k, l)))
+        if self.parts.pairs.is_empty() {
+            return None;
+        }
+        if c == 0 || d == 0 {
+            return None;
+        }
+        self.pairs.table(c, d).value(k, l)
     }
 
-    // What two roles must keep, of items of these nets.
-    fn gap(&self, a: Role, net: Option<u32>, b: Role, other: Option<u32>) -> Option<u32>
-        ensures { result ≡ gap_of self.now.parts (untyped_of self.now.parts) a net b other }
+    // What copper of two classes must keep under these rules.
+    fn copper_gap(&self, rules: RulesView<'_>, k: Kind, c: u32, l: Kind, d: u32) -> u32
+        ensures { result ≡ copper_gap self.now.parts (under rules.entry) k c l d }
+    {
+        if let Some(value) = self.pair_value(c, d, k, l) {
+            return 1u32.max(value);
+        }
+        let own = self.class_value(rules, c, k, l);
+        1u32.max(own.max(self.class_value(rules, d, k, l)))
+    }
+
+    // What two roles must keep under these rules, of items of these nets.
+    fn gap(
+        &self,
+        rules: RulesView<'_>,
+        a: Role,
+        net: Option<u32>,
+        b: Role,
+        other: Option<u32>,
+    ) -> Option<u32>
+        ensures { result ≡ gap_of self.now.parts (under rules.entry) a net b other }
     {
         match (a, b) {
             (Role::Copper { kind: k }, Role::Copper { kind: l }) => {
-                Some(self.copper_gap(k, net, l, other))
+                let c = self.class_of(net);
+                Some(self.copper_gap(rules, k, c, l, self.class_of(other)))
             }
             (Role::Copper { kind }, Role::Keepout { kind: keep }) => barred(keep, kind),
             (Role::Keepout { kind: keep }, Role::Copper { kind }) => barred(keep, kind),
@@ -179,15 +196,16 @@ impl Design {
         }
     }
 
-    /// The clearance in nm that two items must keep, or none. It is the same both ways round. It takes no memory.
-    pub fn need(&self, a: ItemView<'_>, b: ItemView<'_>) -> Option<u32>
-        ensures { result ≡ need_of self.now.parts (item_seen a.entry) (item_seen b.entry) }
+    /// The clearance in nm that two items must keep under these rules, or none. It is the same both ways round. It takes
+    /// no memory.
+    pub fn need(&self, rules: RulesView<'_>, a: ItemView<'_>, b: ItemView<'_>) -> Option<u32>
+        ensures { result ≡ need_in self.now.parts (under rules.entry) (item_seen a.entry) (item_seen b.entry) }
     {
         let net = net_of(a);
         let other = net_of(b);
         if is_same_net(net, other) || (is_fixed(a) && is_fixed(b)) {
             return None;
         }
-        self.gap(role_of(a), net, role_of(b), other)
+        self.gap(rules, role_of(a), net, role_of(b), other)
     }
 }

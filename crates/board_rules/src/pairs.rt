@@ -9,7 +9,9 @@ ghost use Rattle.board_items.specs.Segments.{segments_in, segments_of};
 ghost use Rattle.board_rules.specs.Costs.{pair_most};
 ghost use Rattle.board_rules.specs.Designs.{IsFitItem};
 ghost use Rattle.board_rules.specs.Needs.{AreApart, KeepsNeed};
+ghost use Rattle.board_rules.specs.Rules.{under, IsFitView};
 
+use crate::clearances::RulesView;
 use crate::design::Design;
 use area_geometry::{ShapeView, shape_keeps};
 use board_items::{ItemView, Stacks, shape_at, shape_count};
@@ -64,20 +66,23 @@ fn items_keep<L: Ledger>(
 }
 
 impl Design {
-    /// Whether two items have no need, or keep it. It takes no memory, and at most one step for each segment or edge of
+    /// Whether two items have no need under these rules, or keep it. It takes no memory, and at most one step for each segment or edge of
     /// the one and each of the other.
     pub fn pair_keeps<L: Ledger>(
         &self,
+        rules: RulesView<'_>,
         a: ItemView<'_>,
         b: ItemView<'_>,
         steps: &mut Steps<L>,
     ) -> bool
+        requires view { IsFitView self.now.parts rules }
         requires a_fits { IsFitItem self.now.parts (item_seen a) }
         requires b_fits { IsFitItem self.now.parts (item_seen b) }
-        ensures keeps { IsTrue result ↔ KeepsNeed self.now.parts (item_seen a.entry) (item_seen b.entry) }
+        ensures keeps { IsTrue result ↔ KeepsNeed self.now.parts (under rules.entry) (item_seen a.entry) (item_seen b.entry) }
         ensures cost { steps.new ≤ steps.old + pair_most self.now.parts (item_seen a.entry) (item_seen b.entry) }
     {
-        match self.need(a, b) {
+        rules.keep_limits();
+        match self.need(rules, a, b) {
             None => true,
             Some(gap) => items_keep(a, b, &self.parts.stacks, gap, steps),
         }

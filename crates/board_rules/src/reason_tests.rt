@@ -87,3 +87,16 @@ fn the_first_reason_against_a_boundary_is_told(rt: HostRuntime) -> Result<(), Fa
     assert!(rt; fences_hold(rt.alloc())?, "a row of the table");
     Ok(())
 }
+
+// By hand: class 0 is the only one.
+fn rules_hold(alloc: Global) -> Result<bool, AllocError> {
+    let design = Design::of_parts(sound_parts(alloc)?)?;
+    let beyond = Some(Why::NoClass { class: 1 });
+    Ok(design.rule_why(0).is_none() && design.rule_why(1) == beyond)
+}
+
+#[test]
+fn a_rule_of_a_class_that_isnt_there_is_refused(rt: HostRuntime) -> Result<(), Fail> {
+    assert!(rt; rules_hold(rt.alloc())?, "class 0 and class 1");
+    Ok(())
+}

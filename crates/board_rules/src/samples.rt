@@ -2,11 +2,11 @@
 ghost use Rattle.std.specs.Prelude.{◌≡◌, ◌≤◌, ◌<◌, ◌+◌, ◌^◌, length, IfOk};
 ghost use Rattle.std.specs.List.{AllByRecursion};
 ghost use Rattle.row_lists.specs.Limits.{width_limit_nm};
-ghost use Rattle.board_rules.specs.Designs.{IsSound, IsFitArea, IsFitClass, IsFitShape};
+ghost use Rattle.board_rules.specs.Designs.{IsSound, IsFitArea, IsFitClass, IsFitPair, IsFitShape};
 
 use crate::{
-    Areas, ClassRow, ClassRows, Design, Kind, Names, NetRow, NetRows, Parts, Stated, StatedRows,
-    What,
+    Areas, ClassRow, ClassRows, Design, Kind, Names, NetRow, NetRows, PairRow, PairRows, Parts,
+    Stated, StatedRows, What,
 };
 use area_geometry::{Core, Shape, Shapes};
 use board_items::{Items, Padstack, Stacks};
@@ -154,6 +154,7 @@ pub(crate) fn sound_parts(alloc: Global) -> Result<Parts, AllocError>
         stacks: one_stack(alloc)?,
         nets: two_nets(alloc)?,
         classes: one_class(alloc)?,
+        pairs: PairRows::new(alloc),
         outline: one_area(alloc)?,
         items: Items::new(alloc),
     })
@@ -222,22 +223,56 @@ fn two_classes(alloc: Global) -> Result<ClassRows, AllocError>
     Ok(rows)
 }
 
-fn five_classes(alloc: Global) -> Result<ClassRows, AllocError>
-    ensures count { IfOk result (λ all. length all ≡ 5) }
+fn six_classes(alloc: Global) -> Result<ClassRows, AllocError>
+    ensures count { IfOk result (λ all. length all ≡ 6) }
     ensures fit { IfOk result (AllByRecursion (IsFitClass 1)) }
 {
     let mut rows = two_classes(alloc)?;
     add_class(alloc, &mut rows, b"bare".as_slice(), &[])?;
     add_class(alloc, &mut rows, b"small".as_slice(), &[smd(70_000)])?;
     add_class(alloc, &mut rows, b"none".as_slice(), &[untyped(0)])?;
+    add_class(alloc, &mut rows, b"fine".as_slice(), &[])?;
+    Ok(rows)
+}
+
+fn add_pair(
+    alloc: Global,
+    rows: &mut PairRows,
+    a: u32,
+    b: u32,
+    stated: &[Stated],
+) -> Result<(), AllocError>
+    requires one { a < 6 }
+    requires other { b < 6 }
+    requires within { AllByRecursion (λ s. s.value ≤ width_limit_nm) stated.now }
+    ensures { AllByRecursion (IsFitPair 6) rows.old → IfOk result (λ _. AllByRecursion (IsFitPair 6) rows.new) }
+{
+    rows.push(PairRow {
+        a,
+        b,
+        clearances: StatedRows::from_slice(alloc, stated)?,
+    })
+}
+
+// The name `fine` with itself, twice, and with two others.
+fn four_pairs(alloc: Global) -> Result<PairRows, AllocError>
+    ensures { IfOk result (AllByRecursion (IsFitPair 6)) }
+{
+    let first = [untyped(900_000), pair(Kind::Wire, Kind::Via, 700_000)];
+    let small = [smd(20_000), pair(Kind::Via, Kind::Smd, 30_000)];
+    let mut rows = PairRows::new(alloc);
+    add_pair(alloc, &mut rows, 1, 5, &first)?;
+    add_pair(alloc, &mut rows, 3, 1, &small)?;
+    add_pair(alloc, &mut rows, 5, 1, &[untyped(300_000)])?;
+    add_pair(alloc, &mut rows, 1, 4, &[untyped(0)])?;
     Ok(rows)
 }
 
 // A net of each class of these numbers.
 fn nets(alloc: Global, classes: &[u32]) -> Result<NetRows, AllocError>
-    requires { AllByRecursion (λ c. c < 5) classes.now }
+    requires { AllByRecursion (λ c. c < 6) classes.now }
     ensures count { IfOk result (λ all. length all ≡ length classes.now) }
-    ensures fit { IfOk result (AllByRecursion (λ row. row.class < 5)) }
+    ensures fit { IfOk result (AllByRecursion (λ row. row.class < 6)) }
 {
     let mut rows = NetRows::new(alloc);
     for class in classes {
@@ -246,22 +281,29 @@ fn nets(alloc: Global, classes: &[u32]) -> Result<NetRows, AllocError>
     Ok(rows)
 }
 
-// The parts of a design whose nets 2k and 2k + 1 are of class k.
-fn full_parts(alloc: Global) -> Result<Parts, AllocError>
+// The parts of a design with these pairs, whose nets 2k and 2k + 1 are of class k.
+fn full_parts(alloc: Global, pairs: PairRows) -> Result<Parts, AllocError>
+    requires { AllByRecursion (IsFitPair 6) pairs }
     ensures { IfOk result IsSound }
 {
     Ok(Parts {
         name: Row::from_slice(alloc, b"s.dsn".as_slice())?,
         layers: two_layers(alloc)?,
         stacks: one_stack(alloc)?,
-        nets: nets(alloc, &[0, 0, 1, 1, 2, 2, 3, 3, 4, 4])?,
-        classes: five_classes(alloc)?,
+        nets: nets(alloc, &[0, 0, 1, 1, 2, 2, 3, 3, 4, 4, 5])?,
+        classes: six_classes(alloc)?,
+        pairs,
         outline: one_area(alloc)?,
         items: Items::new(alloc),
     })
 }
 
-// The design of these parts.
+// The design of these parts, without pairs.
 pub(crate) fn full_design(alloc: Global) -> Result<Design, AllocError> {
-    Design::of_parts(full_parts(alloc)?)
+    Design::of_parts(full_parts(alloc, PairRows::new(alloc))?)
+}
+
+// The design of these parts, with four rows of pairs.
+pub(crate) fn paired_design(alloc: Global) -> Result<Design, AllocError> {
+    Design::of_parts(full_parts(alloc, four_pairs(alloc)?)?)
 }

@@ -1,8 +1,9 @@
 ghost use Rattle.std.specs.Prelude.{◌≡◌, ◌<◌, length};
+ghost use Rattle.board_rules.specs.Rules.{IsFitChange};
 
-use crate::Design;
 use crate::fits::fits_item;
-use crate::samples::{full_design, pt, sound_parts, spots};
+use crate::samples::{full_design, paired_design, pt, sound_parts, spots};
+use crate::{Design, RulesView};
 use area_geometry::Shapes;
 use board_items::{ItemView, KeepKind};
 use seg_geometry::{Points, Pt, Steps};
@@ -106,20 +107,68 @@ fn needs() -> [(Sort, Sort, Option<u32>); 28] {
     ]
 }
 
-// Whether `need` answers as the table says, in both orders.
-fn needs_hold(design: &Design, pieces: &Pieces) -> bool {
-    for (a, b, want) in needs() {
-        let first = seen(a, pieces);
-        let second = seen(b, pieces);
-        if design.need(first, second) != want || design.need(second, first) != want {
+// By hand, with the pairs of the names of class 1 with 1, 3 and 4; class 5 has the name of class 1. Net 10 is of class 5.
+fn paired_needs() -> [(Sort, Sort, Option<u32>); 14] {
+    [
+        (Sort::Wire(2), Sort::Wire(3), Some(300_000)),
+        (Sort::Wire(2), Sort::Wire(10), Some(300_000)),
+        (Sort::Wire(2), Sort::Via(10), Some(700_000)),
+        (Sort::Via(10), Sort::Wire(3), Some(700_000)),
+        (Sort::Wire(2), Sort::Smd(Some(10)), Some(300_000)),
+        (Sort::Wire(2), Sort::Smd(Some(6)), Some(20_000)),
+        (Sort::Via(6), Sort::Smd(Some(2)), Some(30_000)),
+        (Sort::Wire(2), Sort::Wire(6), Some(200_000)),
+        (Sort::Wire(2), Sort::Wire(8), Some(1)),
+        (Sort::Wire(2), Sort::Wire(0), Some(200_000)),
+        (Sort::Wire(2), Sort::Smd(None), Some(150_000)),
+        (Sort::Wire(2), Sort::Keep(KeepKind::All), Some(1)),
+        (Sort::Fixed(2), Sort::Pin(10), None),
+        (Sort::Wire(2), Sort::Via(2), None),
+    ]
+}
+
+// By hand, where class 0 is changed to 450,000: nothing closer is stated for wires of class 2, and class 1 states its own.
+fn changed_needs() -> [(Sort, Sort, Option<u32>); 5] {
+    [
+        (Sort::Wire(0), Sort::Wire(1), Some(450_000)),
+        (Sort::Wire(4), Sort::Wire(5), Some(450_000)),
+        (Sort::Wire(2), Sort::Wire(3), Some(100_000)),
+        (Sort::Wire(0), Sort::Via(1), Some(90_000)),
+        (Sort::Wire(0), Sort::Smd(Some(1)), Some(150_000)),
+    ]
+}
+
+// Whether `need` answers as a table says, in both orders.
+fn needs_hold(
+    design: &Design,
+    change: Option<(u32, u32)>,
+    pieces: &Pieces,
+    needs: &[(Sort, Sort, Option<u32>)],
+) -> bool {
+    let rules = RulesView {
+        rules: design.start_rules(),
+        change,
+    };
+    for (a, b, want) in needs {
+        let first = seen(*a, pieces);
+        let second = seen(*b, pieces);
+        if design.need(rules, first, second) != *want
+            || design.need(rules, second, first) != *want
+        {
             return false;
         }
     }
     true
 }
 
-fn has_largest(design: &Design, most: u32) -> bool {
-    design.largest_clearance() == most
+fn has_largest(design: &Design, change: Option<(u32, u32)>, most: u32) -> bool
+    requires { IsFitChange design.now.parts change }
+{
+    let rules = RulesView {
+        rules: design.start_rules(),
+        change,
+    };
+    design.largest_clearance(rules) == most
 }
 
 fn make_pieces(alloc: Global) -> Result<Pieces, AllocError> {
@@ -133,8 +182,32 @@ fn make_pieces(alloc: Global) -> Result<Pieces, AllocError> {
 fn the_closest_statement_is_the_clearance(rt: HostRuntime) -> Result<(), Fail> {
     let design = full_design(rt.alloc())?;
     let pieces = make_pieces(rt.alloc())?;
-    assert!(rt; needs_hold(&design, &pieces), "a row of the table");
-    assert!(rt; has_largest(&design, 200_000), "the largest one");
+    let changed = Some((0, 450_000));
+    assert!(rt;
+        needs_hold(&design, None, &pieces, &needs()),
+        "a row of the table"
+    );
+    assert!(rt;
+        needs_hold(&design, changed, &pieces, &changed_needs()),
+        "a row under a change"
+    );
+    assert!(rt; has_largest(&design, None, 200_000), "the largest one");
+    assert!(rt;
+        has_largest(&design, changed, 450_000),
+        "the largest one under a change"
+    );
+    Ok(())
+}
+
+#[test]
+fn what_a_pair_states_is_the_clearance(rt: HostRuntime) -> Result<(), Fail> {
+    let design = paired_design(rt.alloc())?;
+    let pieces = make_pieces(rt.alloc())?;
+    assert!(rt;
+        needs_hold(&design, None, &pieces, &paired_needs()),
+        "a row of the table"
+    );
+    assert!(rt; has_largest(&design, None, 700_000), "the largest one");
     Ok(())
 }
 
@@ -145,8 +218,12 @@ fn keeps<L: Ledger>(design: &Design, a: ItemView<'_>, b: ItemView<'_>, blank: Bl
     requires some { 0 < blank.parts }
 {
     let mut steps = Steps::<L>::new(blank);
+    let rules = RulesView {
+        rules: design.start_rules(),
+        change: None,
+    };
     if fits_item(&design.parts, a) && fits_item(&design.parts, b) {
-        return Some(design.pair_keeps(a, b, &mut steps));
+        return Some(design.pair_keeps(rules, a, b, &mut steps));
     }
     None
 }
@@ -195,6 +272,7 @@ fn reads(design: &Design) -> bool
         && design.layer_count() == 2
         && design.layer_name(1).as_slice() == b"B.Cu".as_slice()
         && design.net_count() == 2
+        && design.class_count() == 1
         && design.net_name(0).as_slice() == b"net".as_slice()
         && design.stacks().len() == 1
         && design.items().is_empty()
