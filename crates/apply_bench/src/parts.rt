@@ -4,7 +4,9 @@ ghost use Rattle.std.specs.List.{AllByRecursion};
 ghost use Rattle.board_rules.specs.Designs.{IsSound, IsFitClass};
 
 use board_items::{Items, Stacks};
-use board_rules::{Areas, ClassRow, ClassRows, Design, Names, NetRows, Parts, StatedRows};
+use board_rules::{
+    Areas, ClassRow, ClassRows, Design, Names, NetRows, PairRows, Parts, StatedRows,
+};
 use row_lists::Row;
 use std::alloc::{AllocError, Global};
 
@@ -32,6 +34,7 @@ fn empty_parts(alloc: Global) -> Result<Parts, AllocError>
         stacks: Stacks::new(alloc),
         nets: NetRows::new(alloc),
         classes: one_class(alloc)?,
+        pairs: PairRows::new(alloc),
         outline: Areas::new(alloc),
         items: Items::new(alloc),
     })

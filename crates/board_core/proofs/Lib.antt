@@ -1,7 +1,10 @@
+pub mod Ruled
 pub mod Growing
 pub mod Released
 pub mod Reasons
 pub mod Near
+pub mod LiveItems
+pub mod Keeping
 pub mod Leasts
 pub mod Barring
 pub mod Covered

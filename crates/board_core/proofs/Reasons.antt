@@ -10,10 +10,12 @@ use Rattle.seg_geometry.specs.declared.points.Pt.{Pt}
 use Rattle.board_core.specs.Barrings.{IsPlaceReason}
 use Rattle.board_items.specs.declared.history.Why.{Why}
 use Rattle.board_rules.specs.Reasons.{IsStaticReason}
+use Rattle.board_rules.specs.Rules.{with_rule}
 use Rattle.board_rules.specs.declared.design.Parts.{Parts}
 use Rattle.board_core.specs.Boards.{Board}
-use Rattle.number_slots.proofs.ByNumber.{left_at}
+use Rattle.number_slots.proofs.ByNumber.{left_at, by_lt}
 use Rattle.board_core.specs.Edits.{IsDeleteReason, IsDeletesReason, IsOtherReason, IsHeldReason, IsBoardReason}
+use Rattle.board_core.specs.Clearances.{IsUncleanReason}
 use Rattle.board_core.specs.Answers.{IsAnswer}
 
 take_more : (xs : List ℕ) (i id : ℕ) → i < length xs → id ≡ get_or xs i 0 → take (suc i) xs ≡ take i xs ++ id ∷ []
@@ -48,19 +50,32 @@ pub held_on : (held : List (ℕ × ℕ)) (client : ℕ) (deletes : List ℕ) (i 
 held_on held client deletes i w lt h more = rw (left_at deletes i 0 lt) (inr (h, more))
 
 -- an edit that is right by itself is answered by the board's reason
-pub answered : (p : Parts) (b : Board) (clients client : ℕ) (r : Request) (deletes : List ℕ) (all : List Add) (why : Option Why) → r ≡ Edit deletes all → IsStaticReason p clients r None → IsBoardReason p b client deletes all why → IsAnswer p clients b client r why
-answered p b clients client r deletes all why is static board = subst (λ (x : Request). IsAnswer p clients b client x why) (sym is) (inr (subst (λ (x : Request). IsStaticReason p clients x None) is static, board))
+pub answered : (p : Parts) (b : Board) (clients client : ℕ) (r : Request) (deletes : List ℕ) (all : List Add) (why : Option Why) → r ≡ Edit deletes all → IsStaticReason p b.rules clients r None → IsBoardReason p b client deletes all why → IsAnswer p clients b client r why
+answered p b clients client r deletes all why is static board = subst (λ (x : Request). IsAnswer p clients b client x why) (sym is) (inr (subst (λ (x : Request). IsStaticReason p b.rules clients x None) is static, board))
 
 -- a reason by itself is the answer
-pub static_answered : (p : Parts) (b : Board) (clients client : ℕ) (r : Request) (why : Why) → IsStaticReason p clients r (Some why) → IsAnswer p clients b client r (Some why)
+pub static_answered : (p : Parts) (b : Board) (clients client : ℕ) (r : Request) (why : Why) → IsStaticReason p b.rules clients r (Some why) → IsAnswer p clients b client r (Some why)
 static_answered p b clients client (requests.Edit deletes adds) why h = inl (refl, h)
 static_answered p b clients client (requests.Reserve id) why h = absurd cc
 static_answered p b clients client (requests.Release id) why h = absurd cc
 static_answered p b clients client (requests.Fence layers area entitled) why h = inl (refl, h)
 static_answered p b clients client (requests.Unfence fence) why h = absurd cc
 static_answered p b clients client (requests.Entitle fence other) why h = absurd cc
+static_answered p b clients client (requests.Rule class clearance) why h = inl (refl, h)
 
 -- a boundary that is right by itself is answered by its place
-pub fence_answered : (p : Parts) (b : Board) (clients client : ℕ) (r : Request) (layers : List ℕ) (area : List Pt) (entitled : List ℕ) (why : Option Why) → r ≡ requests.Fence layers area entitled → IsStaticReason p clients r None → IsPlaceReason p b client layers area why
+pub fence_answered : (p : Parts) (b : Board) (clients client : ℕ) (r : Request) (layers : List ℕ) (area : List Pt) (entitled : List ℕ) (why : Option Why) → r ≡ requests.Fence layers area entitled → IsStaticReason p b.rules clients r None → IsPlaceReason p b client layers area why
     → IsAnswer p clients b client r why
-fence_answered p b clients client r layers area entitled why is static place = subst (λ (x : Request). IsAnswer p clients b client x why) (sym is) (inr (subst (λ (x : Request). IsStaticReason p clients x None) is static, place))
+fence_answered p b clients client r layers area entitled why is static place = subst (λ (x : Request). IsAnswer p clients b client x why) (sym is) (inr (subst (λ (x : Request). IsStaticReason p b.rules clients x None) is static, place))
+
+-- a change of the clearance of a class that is there is answered by the live items
+pub rule_answered : (p : Parts) (b : Board) (clients client : ℕ) (r : Request) (class clearance : ℕ) (why : Option Why) → r ≡ requests.Rule class clearance → IsStaticReason p b.rules clients r None → IsUncleanReason p (with_rule class clearance b.rules) b.live why → IsAnswer p clients b client r why
+rule_answered p b clients client r class clearance why is static unclean = subst (λ (x : Request). IsAnswer p clients b client x why) (sym is) (inr (subst (λ (x : Request). IsStaticReason p b.rules clients x None) is static, unclean))
+
+rule_there : (p : Parts) (rules : List (Option ℕ)) (clients class clearance : ℕ) → IsStaticReason p rules clients (requests.Rule class clearance) None → class < length p.classes
+rule_there p rules clients class clearance (inl h) = absurd cc
+rule_there p rules clients class clearance (inr h) = by_lt class (length p.classes) (class < length p.classes) (λ lt. lt) (λ past. absurd (h.0 past))
+
+-- the class of a change that is right by itself is there
+pub class_there : (p : Parts) (rules : List (Option ℕ)) (clients : ℕ) (r : Request) (class clearance : ℕ) → r ≡ requests.Rule class clearance → IsStaticReason p rules clients r None → class < length p.classes
+class_there p rules clients r class clearance is static = rule_there p rules clients class clearance (subst (λ (x : Request). IsStaticReason p rules clients x None) is static)

@@ -62,7 +62,7 @@ IsPlaceReason p b client layers area =
 -- what a new boundary is answered: the reason by itself, and then that of its place
 abbrev pub IsFenceReason : Parts → ℕ → Board → ℕ → List ℕ → List Pt → List ℕ → Option Why → Type 0
 IsFenceReason p clients b client layers area entitled =
-    Then (IsStaticReason p clients (requests.Fence layers area entitled)) (IsPlaceReason p b client layers area)
+    Then (IsStaticReason p b.rules clients (requests.Fence layers area entitled)) (IsPlaceReason p b client layers area)
 
 -- what taking a boundary away is answered: it isn't there, or the client isn't its owner
 abbrev pub IsUnfenceReason : Board → ℕ → ℕ → Option Why → Type 0

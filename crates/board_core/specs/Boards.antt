@@ -1,7 +1,8 @@
 -- The board as a fold of the entries over plain lists.
--- Models: a board of numbered items, of which a journal's entries take some away and put others, with what clients hold
--- and with their boundaries. Left out: room that was made. Cited by the calls of `Board`
-use Rattle.std.specs.Prelude.{◌≡◌, ℕ, ◌+◌, Bool, not, ◌==◌, ◌&&◌, nat_le, if◌then◌else◌, List, [], ◌∷◌, ◌++◌, length, take}
+-- Models: a board of numbered items, of which a journal's entries take some away and put others, with what clients hold,
+-- with their boundaries, and with the rules that its items keep. Left out: room that was made. Cited by the calls of
+-- `Board`
+use Rattle.std.specs.Prelude.{◌≡◌, ℕ, ◌+◌, Bool, not, ◌==◌, ◌&&◌, nat_le, if◌then◌else◌, Option, List, [], ◌∷◌, ◌++◌, length, take}
 use Rattle.std.specs.List.{AllByRecursion, list_any, filter}
 use Rattle.board_items.specs.declared.items.Item.{Item}
 use Rattle.board_items.specs.declared.requests.Add.{Add}
@@ -12,21 +13,24 @@ use Rattle.board_items.specs.declared.history.Act.TheVariants as acts
 use Rattle.board_items.specs.declared.history.Entry.{Entry}
 use Rattle.board_items.specs.Adds.{item_of_add, layer_of_add}
 use Rattle.board_rules.specs.declared.design.Parts.{Parts}
+use Rattle.board_rules.specs.Classes.{untyped_of}
 use Rattle.board_rules.specs.Designs.{IsFitItem}
 use Rattle.board_rules.specs.FitAdds.{HasFitAdds}
+use Rattle.board_rules.specs.Rules.{with_rule, IsFitRules}
 use Rattle.number_slots.specs.Slots.{without, numbered}
 use Rattle.reservations.specs.Held.{not_of}
 use Rattle.boundaries.specs.Boundaries.{Boundary, boundary_of, fence_made, entitled_at}
 
 -- the live items with their numbers, in the order of these, and the number that the next item gets; the held items, each
--- with its client, in the order of reserving; the boundaries with their numbers, and the number given last; the count of
--- entries
+-- with its client, in the order of reserving; the boundaries with their numbers, and the number given last; the untyped
+-- clearance of each class, in nm, or none; the count of entries
 pub record Board : Type 0 where
   pub live : List (ℕ × Item)
   pub next_id : ℕ
   pub held : List (ℕ × ℕ)
   pub fences : List (ℕ × Boundary)
   pub last : ℕ
+  pub rules : List (Option ℕ)
   pub count : ℕ
 
 -- two boards are the same but for room that was made
@@ -36,11 +40,13 @@ pub record IsSameBoard (b c : Board) : Type 0 where
   pub held : b.held ≡ c.held
   pub fences : b.fences ≡ c.fences
   pub last : b.last ≡ c.last
+  pub rules : b.rules ≡ c.rules
   pub count : b.count ≡ c.count
 
--- the board before the first entry: the loaded items, numbered from 1, none held, and no boundary
+-- the board before the first entry: the loaded items, numbered from 1, none held, no boundary, and the rules that the
+-- design's classes state
 abbrev pub first_board : Parts → Board
-first_board p = record { live = numbered 1 p.items; next_id = length p.items + 1; held = []; fences = []; last = 0; count = 0 }
+first_board p = record { live = numbered 1 p.items; next_id = length p.items + 1; held = []; fences = []; last = 0; rules = untyped_of p; count = 0 }
 
 -- what an add makes under a number; a wire on a layer above 255 makes nothing
 abbrev pub made_of : ℕ → Add → List (ℕ × Item)
@@ -85,6 +91,7 @@ requested b client (requests.Fence layers area clients) = record b {
 }
 requested b client (requests.Unfence fence) = record b { fences = without (fence ∷ []) b.fences; count = b.count + 1 }
 requested b client (requests.Entitle fence other) = record b { fences = entitled_at fence other b.fences; count = b.count + 1 }
+requested b client (requests.Rule class clearance) = record b { rules = with_rule class clearance b.rules; count = b.count + 1 }
 
 -- the board after one more act of a client: a leave ends the client's reservations
 abbrev pub after : Board → ℕ → Act → Board
@@ -109,9 +116,14 @@ abbrev pub taken_by : Act → ℕ
 taken_by (acts.Ask (requests.Edit deletes adds)) = length adds
 taken_by _ = 0
 
--- each live item is fit for the design
+-- each of these is fit for the design
+abbrev pub AreFitItems : Parts → List (ℕ × Item) → Type 0
+AreFitItems p live = AllByRecursion (λ (l : ℕ × Item). IsFitItem p l.1) live
+
+-- each live item is fit for the design, and the rules have exactly one place a class
 pub record IsBoardOf (p : Parts) (b : Board) : Type 0 where
-  pub fit : AllByRecursion (λ (l : ℕ × Item). IsFitItem p l.1) b.live
+  pub fit : AreFitItems p b.live
+  pub rules : IsFitRules p b.rules
 
 -- the adds of an act are fit for the design
 abbrev pub HasFitAct : Parts → Act → Type 0

@@ -38,32 +38,37 @@ abbrev pub IsHeldReason : List (ℕ × ℕ) → ℕ → List ℕ → Option Why 
 IsHeldReason held client [] = Nothing
 IsHeldReason held client (id ∷ rest) = Then (IsOtherReason held client id) (IsHeldReason held client rest)
 
--- the live item of this number isn't deleted, and is too near to an item
-pub record IsNear (p : Parts) (live : List (ℕ × Item)) (deletes : List ℕ) (item : Item) (id : ℕ) : Type 0 where
+-- an item that has a number isn't deleted, and is too near to an item under these rules
+abbrev pub IsNearItem : Parts → List (Option ℕ) → List ℕ → Item → ℕ × Item → Type 0
+IsNearItem p rules deletes item other = (KeepsNeed p rules item other.1 → ⊥) × (is_among other.0 deletes ≡ false)
+
+-- the live item of this number isn't deleted, and is too near to an item under these rules
+pub record IsNear (p : Parts) (rules : List (Option ℕ)) (live : List (ℕ × Item)) (deletes : List ℕ) (item : Item) (id : ℕ) : Type 0 where
   pub other : Item
   pub other_is : IsAt live id other
-  pub near : KeepsNeed p item other → ⊥
+  pub near : KeepsNeed p rules item other → ⊥
   pub stays : is_among id deletes ≡ false
 
 -- an add and a live item that are too near
 abbrev pub clash : ℕ → ℕ → Why
 clash add id = whys.Clash add (record { 0 = id })
 
--- the least add, of those from number a on, and then the least live item that isn't deleted, that are too near
-abbrev pub IsClashReason : Parts → List (ℕ × Item) → List ℕ → ℕ → List Add → Option Why → Type 0
-IsClashReason p live deletes a [] = Nothing
-IsClashReason p live deletes a (add ∷ rest) =
-    Then (Least (IsNear p live deletes (item_of_add add)) (clash a)) (IsClashReason p live deletes (a + 1) rest)
+-- the least add, of those from number a on, and then the least live item that isn't deleted, that are too near under these
+-- rules
+abbrev pub IsClashReason : Parts → List (Option ℕ) → List (ℕ × Item) → List ℕ → ℕ → List Add → Option Why → Type 0
+IsClashReason p rules live deletes a [] = Nothing
+IsClashReason p rules live deletes a (add ∷ rest) =
+    Then (Least (IsNear p rules live deletes (item_of_add add)) (clash a)) (IsClashReason p rules live deletes (a + 1) rest)
 
--- the first reason of the board against an edit: of its deletes, of who holds them, of boundaries, then a clash with what
--- isn't deleted
+-- the first reason of the board against an edit: of its deletes, of who holds them, of boundaries, then a clash under the
+-- board's rules with what isn't deleted
 abbrev pub IsBoardReason : Parts → Board → ℕ → List ℕ → List Add → Option Why → Type 0
 IsBoardReason p b client deletes adds =
     Then (IsDeletesReason b.live [] deletes)
     (Then (IsHeldReason b.held client deletes)
-    (Then (IsProtectedReason p b client deletes adds) (IsClashReason p b.live deletes 1 adds)))
+    (Then (IsProtectedReason p b client deletes adds) (IsClashReason p b.rules b.live deletes 1 adds)))
 
 -- what an edit of a client is answered: the first reason by itself, and then that of the board
 abbrev pub IsEditReason : Parts → ℕ → Board → ℕ → List ℕ → List Add → Option Why → Type 0
 IsEditReason p clients b client deletes adds =
-    Then (IsStaticReason p clients (requests.Edit deletes adds)) (IsBoardReason p b client deletes adds)
+    Then (IsStaticReason p b.rules clients (requests.Edit deletes adds)) (IsBoardReason p b client deletes adds)

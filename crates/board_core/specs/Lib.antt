@@ -6,6 +6,8 @@ pub mod Barrings
 pub mod Bars
 pub mod Reservings
 pub mod Edits
+pub mod Clearances
+pub mod LiveItems
 pub mod Answers
 pub mod Costs
 pub mod Histories

@@ -11,6 +11,7 @@ ghost use Rattle.board_core.specs.Costs.{board_most, answer_most};
 use crate::barrings::protected_why;
 use crate::board::Board;
 use crate::clashes::clash_why;
+use crate::clearances::unclean_why;
 use crate::covers::{entitle_why, fence_why, unfence_why};
 use crate::deletes::{deletes_why, held_why};
 use crate::reservings::{release_why, reserve_why};
@@ -63,7 +64,7 @@ pub fn slow_answer<L: Ledger>(
     ensures fits { IfNone result (HasFitAdds design.now.parts request.now) }
     ensures cost { steps.new ≤ steps.old + answer_most design.now.parts board.now request.now result }
 {
-    if let Some(why) = design.static_why(request, clients, steps) {
+    if let Some(why) = design.static_why(board.rules_view(), request, clients, steps) {
         return Some(why);
     }
     match request {
@@ -87,5 +88,8 @@ pub fn slow_answer<L: Ledger>(
             fence,
             client: other,
         } => entitle_why(board, clients, client, *fence, *other),
+        Request::Rule { class, clearance } => {
+            unclean_why(design, board, *class, *clearance, steps)
+        }
     }
 }

@@ -3,7 +3,8 @@ ghost use Rattle.std.specs.Prelude.{◌≡◌, ◌≤◌, ◌+◌, ◌∷◌, []
 ghost use Rattle.std.specs.List.{AllByRecursion};
 ghost use Rattle.number_slots.specs.Leasts.{IsLeast};
 ghost use Rattle.board_items.specs.Adds.{item_seen, item_of_add};
-ghost use Rattle.board_items.specs.Segments.{segments_of};
+ghost use Rattle.board_items.specs.Shapes.{copper_of_item};
+ghost use Rattle.boundaries.specs.Costs.{boundary_most};
 ghost use Rattle.board_rules.specs.Designs.{IsFitItem};
 ghost use Rattle.board_rules.specs.FitAdds.{IsFitAdd};
 ghost use Rattle.board_core.specs.Boards.{IsBoardOf};

@@ -1,17 +1,22 @@
 //! The board after some entries.
 ghost use Rattle.std.specs.Prelude.{◌≡◌, ◌+◌, ◌<◌, ◌≤◌, ◌^◌, ℕ, List, IfOk, OnOk, OnErr, IfSome, IfNone, slice_get, Some, length};
+ghost use Rattle.row_lists.specs.Limits.{width_limit_nm};
 ghost use Rattle.board_items.specs.declared.items.Item.{Item};
 ghost use Rattle.board_items.specs.declared.history.Entry.{Entry};
 ghost use Rattle.board_rules.specs.declared.design.Parts.{Parts};
+ghost use Rattle.board_rules.specs.Rules.{under, IsFitView};
 ghost use Rattle.number_slots.specs.Slots.{IsAt, IsThere, IsRisingFrom};
 ghost use Rattle.board_items.specs.Formed.{IsFormed, IsFormedAct, IsFormedFence};
 ghost use Rattle.board_core.specs.Boards.{first_board, edited, requested, after, board_at, taken_by, IsSameBoard, IsBoardOf, HasFitAct};
+ghost use Rattle.board_core.specs.LiveItems.{live_from, AreNumbered};
 
+use crate::clearances::change;
 use crate::draws::draw;
 use crate::holds::{release, release_all, release_client, reserve};
+use crate::live_items::LiveItems;
 use crate::made::{loaded, made};
 use board_items::{Act, Add, Clients, Entry, Item, ItemId, Layers, Request};
-use board_rules::Design;
+use board_rules::{Design, Rules, RulesView};
 use boundaries::Fences;
 use number_slots::Slots;
 use reservations::Held;
@@ -19,13 +24,14 @@ use seg_geometry::Points;
 use std::alloc::{AllocError, Global};
 use std::marker::Model;
 
-/// The live items in the order of their numbers, the next number, who holds what, the boundaries, and the count of
-/// entries.
+/// The live items in the order of their numbers, the next number, who holds what, the boundaries, the rules that its
+/// items keep, and the count of entries.
 #[derive(Drop)]
 pub struct Board {
     items: Slots<Item>,
     held: Held,
     fences: Fences,
+    rules: Rules,
     count: u32,
 }
 
@@ -36,15 +42,15 @@ impl Model for Board {
 
     ghost Value = { Seen };
 
-    ghost view = { λ b. record { live = there 1 b.items; next_id = length b.items + 1; held = b.held.pairs; fences = b.fences.fences; last = b.fences.last; count = b.count } };
+    ghost view = { λ b. record { live = there 1 b.items; next_id = length b.items + 1; held = b.held.pairs; fences = b.fences.fences; last = b.fences.last; rules = b.rules; count = b.count } };
 
     // An entry adds one reservation at most, and one boundary.
     ghost invariant = { λ b. (length b.held.pairs ≤ b.count) × (b.fences.last ≤ b.count) };
 }
 
 impl Board {
-    /// The board before the first entry: the design's loaded items, numbered from 1, none of them held, and no
-    /// boundary. Its one error is want of memory.
+    /// The board before the first entry: the design's loaded items, numbered from 1, none of them held, no boundary, and
+    /// the rules that the design starts with. Its one error is want of memory.
     pub fn new(alloc: Global, design: &Design) -> Result<Board, AllocError>
         ensures first { IfOk result (λ b. IsSameBoard b (first_board design.now.parts)) }
         ensures fits { IfOk result (IsBoardOf design.now.parts) }
@@ -52,10 +58,12 @@ impl Board {
         let mut items = Slots::new(alloc);
         let made = loaded(alloc, design.items().as_slice())?;
         items.replace(&[], made)?;
+        let rules = design.start_rules().copy()?;
         Ok(Board {
             items,
             held: Held::new(alloc),
             fences: Fences::new(alloc),
+            rules,
             count: 0,
         })
     }
@@ -116,6 +124,37 @@ impl Board {
         ensures last { result.now.last ≡ self.now.last }
     {
         &self.fences
+    }
+
+    /// The untyped clearances of the classes, which the live items keep.
+    pub fn rules(&self) -> &Rules
+        ensures { result.now ≡ self.now.rules }
+    {
+        &self.rules
+    }
+
+    // The rules as they are.
+    pub(crate) fn rules_view(&self) -> RulesView<'_>
+        ensures rules { under result ≡ self.now.rules }
+        ensures fits { (p : Parts) → IsBoardOf p self.now → IsFitView p result }
+    {
+        RulesView {
+            rules: &self.rules,
+            change: None,
+        }
+    }
+
+    // A walk over the live items.
+    pub(crate) fn live_items(&self) -> LiveItems<'_>
+        ensures all { live_from result 0 ≡ self.now.live }
+        ensures numbered { AreNumbered result }
+        ensures rising { IsRisingFrom 1 self.now.live }
+    {
+        let _last = self.items.last();
+        LiveItems::OnBoard {
+            numbers: self.items.numbers(),
+            items: &self.items,
+        }
     }
 
     // Deletes and adds, as one entry. A deleted item is no longer held.
@@ -188,6 +227,16 @@ impl Board {
         self.count += 1;
     }
 
+    // A change of a class's clearance, as one entry.
+    fn rule(&mut self, client: u8, class: u32, clearance: u32)
+        requires count { self.old.count + 1 < 2 ^ 32 }
+        requires fits { clearance ≤ width_limit_nm }
+        ensures { IsSameBoard self.new (requested self.old client (Request.Rule class clearance)) }
+    {
+        change(&mut self.rules, class, clearance);
+        self.count += 1;
+    }
+
     // The end of a client's reservations, as one entry. Its boundaries stay.
     fn leave(&mut self, client: u8)
         requires count { self.old.count + 1 < 2 ^ 32 }
@@ -221,6 +270,7 @@ impl Board {
                 fence,
                 client: other,
             } => self.entitle(client, *fence, *other),
+            Request::Rule { class, clearance } => self.rule(client, *class, *clearance),
         }
         Ok(())
     }
@@ -244,7 +294,8 @@ impl Board {
 
     /// Takes one more entry. An edit's deletes go, whatever they are, and are held no longer, and then its adds come,
     /// under the next numbers. A client that leaves holds nothing any more, and its boundaries stay. What isn't there
-    /// isn't changed. After an `Err`, for want of memory, the board is as before; a leave takes none.
+    /// isn't changed. After an `Err`, for want of memory, the board is as before; a leave and a change of a clearance
+    /// take none.
     pub fn apply(&mut self, entry: &Entry) -> Result<(), AllocError>
         requires next { self.old.next_id + taken_by entry.now.act < 2 ^ 32 }
         requires count { self.old.count + 1 < 2 ^ 32 }

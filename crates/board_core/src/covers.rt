@@ -3,9 +3,10 @@ ghost use Rattle.std.specs.Prelude.{◌≡◌, ◌≤◌, ◌+◌, ◌*◌, ℕ,
 ghost use Rattle.number_slots.specs.Leasts.{IsLeast};
 ghost use Rattle.number_slots.specs.Sums.{sum_between};
 ghost use Rattle.board_items.specs.declared.items.Item.{Item};
-ghost use Rattle.board_items.specs.Segments.{segments_of};
+ghost use Rattle.seg_geometry.specs.Rectangles.{IsLeastGrown};
+ghost use Rattle.board_items.specs.Shapes.{copper_of_item};
 ghost use Rattle.boundaries.specs.Boundaries.{IsFitArea};
-ghost use Rattle.boundaries.specs.Costs.{fences_most};
+ghost use Rattle.boundaries.specs.Costs.{shapes_most, overlap_most, fences_most};
 ghost use Rattle.board_core.specs.Boards.{IsBoardOf};
 ghost use Rattle.board_core.specs.Bars.{IsCoveredPair};
 ghost use Rattle.board_core.specs.Barrings.{IsCovered, IsPlaceReason, IsUnfenceReason, IsEntitleReason};
@@ -16,23 +17,26 @@ use crate::board::Board;
 use board_items::{ItemId, Layers, Why, view};
 use board_rules::Design;
 use boundaries::touches_area;
-use seg_geometry::{Points, Steps};
+use seg_geometry::{Points, Rect, Steps, rect_of};
 use std::sync::ledger::Ledger;
 
-// The number of an item, where a client other than this one holds it and it touches an area on some layers.
+// The number of an item, where a client other than this one holds it and it touches an area on some layers. The area's
+// least rectangle is the frame.
 fn covered<L: Ledger>(
     design: &Design,
     board: &Board,
     client: u8,
     layers: &Layers,
     area: &Points,
+    frame: Rect,
     pair: (ItemId, u8),
     steps: &mut Steps<L>,
 ) -> Option<u32>
     requires board { IsBoardOf design.now.parts board.now }
     requires area { IsFitArea area.now }
+    requires frame { IsLeastGrown frame area.now 0 }
     ensures least { IsLeast (IsCoveredPair design.now.parts board.now.live client layers.now area.now (pair.0.0, pair.1)) result }
-    ensures cost { steps.new ≤ steps.old + covered_most design.now.parts board.now.live (length area.now) pair.0.0 }
+    ensures cost { steps.new ≤ steps.old + covered_most design.now.parts board.now.live layers.now area.now pair.0.0 }
 {
     let (id, holder) = pair;
     if holder == client {
@@ -44,6 +48,7 @@ fn covered<L: Ledger>(
         design.stacks(),
         layers.as_slice(),
         area.as_slice(),
+        frame,
         steps,
     ) {
         return None;
@@ -63,14 +68,15 @@ fn least_covered<L: Ledger>(
     requires board { IsBoardOf design.now.parts board.now }
     requires area { IsFitArea area.now }
     ensures least { IsLeast (IsCovered design.now.parts board.now client layers.now area.now) result }
-    ensures cost { steps.new ≤ steps.old + held_most design.now.parts board.now.live (length area.now) board.now.held }
+    ensures cost { steps.new ≤ steps.old + held_most design.now.parts board.now.live layers.now area.now board.now.held }
 {
+    let frame = rect_of(area.as_slice(), 0);
     let mut least = None;
     for i in 0..board.held().len() {
         let pair = board.held().at(i)?;
         least = lesser(
             least,
-            covered(design, board, client, layers, area, pair, steps),
+            covered(design, board, client, layers, area, frame, pair, steps),
         );
     }
     least
@@ -88,7 +94,7 @@ pub fn fence_why<L: Ledger>(
     requires board { IsBoardOf design.now.parts board.now }
     requires area { IsFitArea area.now }
     ensures reason { IsPlaceReason design.now.parts board.now client layers.now area.now result }
-    ensures cost { steps.new ≤ steps.old + (fences_most (length area.now) 0 board.now.fences + held_most design.now.parts board.now.live (length area.now) board.now.held) }
+    ensures cost { steps.new ≤ steps.old + (fences_most (overlap_most layers.now area.now) 0 board.now.fences + held_most design.now.parts board.now.live layers.now area.now board.now.held) }
 {
     if let Some(fence) = board.fences().overlap(layers, area, client, steps) {
         return Some(Why::Overlap { fence });

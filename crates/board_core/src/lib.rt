@@ -5,11 +5,14 @@ mod answer;
 mod barrings;
 mod board;
 mod clashes;
+mod clearances;
 mod covers;
 mod deletes;
 mod draws;
 mod holds;
+mod live_items;
 mod made;
+mod nears;
 mod pairs;
 mod reservings;
 

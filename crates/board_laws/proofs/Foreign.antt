@@ -1,6 +1,6 @@
 -- What an act of a client leaves in a boundary in which the client isn't entitled.
 use Rattle.std.proofs.Common.{◌≡◌, ℕ, ◌+◌, List, [], ◌∷◌, ◌++◌, refl, sym, ap, ◌∙◌, subst, inl, inr, Bool, true, false}
-use Rattle.std.specs.Prelude.{◌==◌, not, ◌&&◌, if◌then◌else◌}
+use Rattle.std.specs.Prelude.{◌==◌, not, ◌&&◌, if◌then◌else◌, Option}
 use Rattle.std.proofs.lemmas.Bool.{ne_eqb, not_from_false}
 use Rattle.board_items.specs.declared.items.Item.{Item}
 use Rattle.board_items.specs.declared.requests.Add.{Add}
@@ -115,6 +115,10 @@ leave_same p b client n f is at_n foreign = record {
 -- only a boundary changes
 pub fence_same : (p : Parts) (b : Board) (n : ℕ) (f : Boundary) (fences : List (ℕ × Boundary)) (last : ℕ) → IsAt fences n f → IsSameWithin p n f b (record b { fences = fences; last = last; count = b.count + 1 })
 fence_same p b n f fences last h = record { fence = h; items = λ m x touches. (λ k. k, λ k. k); held = λ m holder touches. (λ k. k, λ k. k) }
+
+-- only the rules change
+pub rule_same : (p : Parts) (b : Board) (n : ℕ) (f : Boundary) (rules : List (Option ℕ)) → IsAt b.fences n f → IsSameWithin p n f b (record b { rules = rules; count = b.count + 1 })
+rule_same p b n f rules h = record { fence = h; items = λ m x touches. (λ k. k, λ k. k); held = λ m holder touches. (λ k. k, λ k. k) }
 
 -- a boundary that the client owns is none in which it isn't entitled
 pub not_owned : (b : Board) (client m n : ℕ) (f : Boundary) → IsOrdered b → ((IsOwner b.fences m client → ⊥) → ⊥) → IsAt b.fences n f → (IsEntitled f client → ⊥) → n ≡ m → ⊥

@@ -88,4 +88,5 @@ step_guarded p clients b client (acts.Ask (requests.Release id)) order is step =
 step_guarded p clients b client (acts.Ask (requests.Fence layers area entitled)) order is step = record { guarded = guarded_fence p b client layers area entitled (fence_none p clients b client layers area entitled step) is.guarded }
 step_guarded p clients b client (acts.Ask (requests.Unfence fence)) order is step = record { guarded = λ m holder n f h at_n t no. is.guarded m holder n f h (at_within (fence ∷ []) b.fences n f at_n) t no }
 step_guarded p clients b client (acts.Ask (requests.Entitle fence other)) order is step = record { guarded = guarded_entitle p b fence other is.guarded }
+step_guarded p clients b client (acts.Ask (requests.Rule class clearance)) order is step = record { guarded = is.guarded }
 step_guarded p clients b client acts.Leave order is step = record { guarded = λ m holder n f h at_n t no. is.guarded m holder n f (within_filter _ b.held m holder h).0 at_n t no }

@@ -1,6 +1,6 @@
 -- What adds make, and that no two of them are too near, nor one of them and what stays.
 use Rattle.std.proofs.Common.{◌≡◌, ℕ, ◌+◌, ◌<◌, ◌≤◌, List, [], ◌∷◌, length, refl, sym, subst, arith, inl, inr, Bool, true, false}
-use Rattle.std.specs.Prelude.{◌⊎◌, None, nat_le, Any}
+use Rattle.std.specs.Prelude.{◌⊎◌, Option, None, nat_le, Any}
 use Rattle.board_items.specs.declared.items.Item.{Item}
 use Rattle.board_items.specs.declared.requests.Add.{Add}
 use Rattle.board_items.specs.Adds.{item_of_add, layer_of_add}
@@ -13,7 +13,7 @@ use Rattle.board_core.specs.Boards.{made_of, made_from}
 use Rattle.board_core.specs.Clean.{IsCleanBoard}
 use Rattle.board_core.specs.Edits.{IsClashReason}
 use Rattle.board_laws.proofs.Lists.{any_first, any_later}
-use Rattle.board_laws.proofs.Needs.{keeps_need}
+use Rattle.board_core.proofs.Keeping.{keeps_need}
 use Rattle.board_laws.proofs.Refusals.{then_none, first_none}
 
 one_made : (n : ℕ) (add : Add) (test : Bool) (m : ℕ) (x : Item) → nat_le (layer_of_add add) 255 ≡ test → IsAt (made_of n add) m x → (n ≡ m) × (item_of_add add ≡ x)
@@ -44,35 +44,35 @@ made_by P n (add ∷ rest) m x h is = elim (either_made n add rest m x h) [
 
 -- ---- needs
 
-near_none : (p : Parts) (a : ℕ) (item : Item) (b n : ℕ) (adds : List Add) (m : ℕ) (x : Item) → IsNearReason p a item b adds None → IsAt (made_from n adds) m x → KeepsNeed p item x
-near_none p a item b n [] m x none h = absurd h
-near_none p a item b n (add ∷ rest) m x none h =
+near_none : (p : Parts) (rules : List (Option ℕ)) (a : ℕ) (item : Item) (b n : ℕ) (adds : List Add) (m : ℕ) (x : Item) → IsNearReason p rules a item b adds None → IsAt (made_from n adds) m x → KeepsNeed p rules item x
+near_none p rules a item b n [] m x none h = absurd h
+near_none p rules a item b n (add ∷ rest) m x none h =
     let parts = first_none none in
     elim (either_made n add rest m x h) [
-      | inl f ↦ subst (λ (y : Item). KeepsNeed p item y) f.1 (keeps_need p item (item_of_add add) parts.0)
-      | inr f ↦ near_none p a item (b + 1) (n + 1) rest m x parts.1 f
+      | inl f ↦ subst (λ (y : Item). KeepsNeed p rules item y) f.1 (keeps_need p rules item (item_of_add add) parts.0)
+      | inr f ↦ near_none p rules a item (b + 1) (n + 1) rest m x parts.1 f
     ]
 
-own_pair : (p : Parts) (a n : ℕ) (add : Add) (rest : List Add) (c d : ℕ) (x y : Item) → c < d → IsNearReason p a (item_of_add add) (a + 1) rest None → IsCleanBoard p (made_from (n + 1) rest)
-    → ((n ≡ c) × (item_of_add add ≡ x)) ⊎ IsAt (made_from (n + 1) rest) c x → ((n ≡ d) × (item_of_add add ≡ y)) ⊎ IsAt (made_from (n + 1) rest) d y → KeepsNeed p x y
-own_pair p a n add rest c d x y lt near clean (inl f) (inl g) = absurd (omega (arith, f.0, g.0))
-own_pair p a n add rest c d x y lt near clean (inl f) (inr g) = subst (λ (z : Item). KeepsNeed p z y) f.1 (near_none p a (item_of_add add) (a + 1) (n + 1) rest d y near g)
-own_pair p a n add rest c d x y lt near clean (inr f) (inl g) = let le = made_at_least (n + 1) rest c x f in absurd (omega (arith, g.0))
-own_pair p a n add rest c d x y lt near clean (inr f) (inr g) = clean c d x y lt f g
+own_pair : (p : Parts) (rules : List (Option ℕ)) (a n : ℕ) (add : Add) (rest : List Add) (c d : ℕ) (x y : Item) → c < d → IsNearReason p rules a (item_of_add add) (a + 1) rest None → IsCleanBoard p rules (made_from (n + 1) rest)
+    → ((n ≡ c) × (item_of_add add ≡ x)) ⊎ IsAt (made_from (n + 1) rest) c x → ((n ≡ d) × (item_of_add add ≡ y)) ⊎ IsAt (made_from (n + 1) rest) d y → KeepsNeed p rules x y
+own_pair p rules a n add rest c d x y lt near clean (inl f) (inl g) = absurd (omega (arith, f.0, g.0))
+own_pair p rules a n add rest c d x y lt near clean (inl f) (inr g) = subst (λ (z : Item). KeepsNeed p rules z y) f.1 (near_none p rules a (item_of_add add) (a + 1) (n + 1) rest d y near g)
+own_pair p rules a n add rest c d x y lt near clean (inr f) (inl g) = let le = made_at_least (n + 1) rest c x f in absurd (omega (arith, g.0))
+own_pair p rules a n add rest c d x y lt near clean (inr f) (inr g) = clean c d x y lt f g
 
 -- no two of the adds are too near
-pub own_none : (p : Parts) (a n : ℕ) (adds : List Add) → IsOwnReason p a adds None → IsCleanBoard p (made_from n adds)
-own_none p a n [] none = λ c d x y lt f g. absurd f
-own_none p a n (add ∷ rest) none =
+pub own_none : (p : Parts) (rules : List (Option ℕ)) (a n : ℕ) (adds : List Add) → IsOwnReason p rules a adds None → IsCleanBoard p rules (made_from n adds)
+own_none p rules a n [] none = λ c d x y lt f g. absurd f
+own_none p rules a n (add ∷ rest) none =
     let parts = then_none none in
-    λ c d x y lt f g. own_pair p a n add rest c d x y lt parts.0 (own_none p (a + 1) (n + 1) rest parts.1) (either_made n add rest c x f) (either_made n add rest d y g)
+    λ c d x y lt f g. own_pair p rules a n add rest c d x y lt parts.0 (own_none p rules (a + 1) (n + 1) rest parts.1) (either_made n add rest c x f) (either_made n add rest d y g)
 
 -- no add is too near to a live item that isn't deleted
-pub clash_none : (p : Parts) (live : List (ℕ × Item)) (deletes : List ℕ) (a n : ℕ) (adds : List Add) (c d : ℕ) (x y : Item) → IsClashReason p live deletes a adds None → IsAt live c x → is_among c deletes ≡ false → IsAt (made_from n adds) d y → KeepsNeed p y x
-clash_none p live deletes a n [] c d x y none f stays g = absurd g
-clash_none p live deletes a n (add ∷ rest) c d x y none f stays g =
+pub clash_none : (p : Parts) (rules : List (Option ℕ)) (live : List (ℕ × Item)) (deletes : List ℕ) (a n : ℕ) (adds : List Add) (c d : ℕ) (x y : Item) → IsClashReason p rules live deletes a adds None → IsAt live c x → is_among c deletes ≡ false → IsAt (made_from n adds) d y → KeepsNeed p rules y x
+clash_none p rules live deletes a n [] c d x y none f stays g = absurd g
+clash_none p rules live deletes a n (add ∷ rest) c d x y none f stays g =
     let parts = then_none none in
     elim (either_made n add rest d y g) [
-      | inl h ↦ subst (λ (z : Item). KeepsNeed p z x) h.1 (keeps_need p (item_of_add add) x (λ near. parts.0 c (record { other = x; other_is = f; near = near; stays = stays })))
-      | inr h ↦ clash_none p live deletes (a + 1) (n + 1) rest c d x y parts.1 f stays h
+      | inl h ↦ subst (λ (z : Item). KeepsNeed p rules z x) h.1 (keeps_need p rules (item_of_add add) x (λ near. parts.0 c (record { other = x; other_is = f; near = near; stays = stays })))
+      | inr h ↦ clash_none p rules live deletes (a + 1) (n + 1) rest c d x y parts.1 f stays h
     ]

@@ -60,6 +60,7 @@ items_below p clients b client (acts.Ask (requests.Release id)) is step = record
 items_below p clients b client (acts.Ask (requests.Fence layers area entitled)) is step = record { live_below = is.live_below; held_below = is.held_below }
 items_below p clients b client (acts.Ask (requests.Unfence fence)) is step = record { live_below = is.live_below; held_below = is.held_below }
 items_below p clients b client (acts.Ask (requests.Entitle fence other)) is step = record { live_below = is.live_below; held_below = is.held_below }
+items_below p clients b client (acts.Ask (requests.Rule class clearance)) is step = record { live_below = is.live_below; held_below = is.held_below }
 items_below p clients b client acts.Leave is step = record {
   live_below = is.live_below;
   held_below = λ m holder h. is.held_below m holder (within_filter _ b.held m holder h).0;
@@ -98,6 +99,7 @@ fences_once b client (acts.Ask (requests.Unfence fence)) is = record {
   once = λ n f g h k. is.once n f g (at_within (fence ∷ []) b.fences n f h) (at_within (fence ∷ []) b.fences n g k);
 }
 fences_once b client (acts.Ask (requests.Entitle fence other)) is = entitled_once b.fences b.last fence other is
+fences_once b client (acts.Ask (requests.Rule class clearance)) is = record { within = is.within; once = is.once }
 fences_once b client acts.Leave is = record { within = is.within; once = is.once }
 
 -- ---- boards

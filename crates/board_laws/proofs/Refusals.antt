@@ -6,11 +6,14 @@ use Rattle.board_items.specs.declared.history.Why.{Why}
 use Rattle.seg_geometry.specs.declared.points.Pt.{Pt}
 use Rattle.board_rules.specs.declared.design.Parts.{Parts}
 use Rattle.board_rules.specs.Reasons.{IsOwnReason}
+use Rattle.board_rules.specs.Rules.{with_rule}
 use Rattle.number_slots.specs.Slots.{IsThere}
 use Rattle.board_core.specs.Boards.{Board}
 use Rattle.boundaries.specs.Boundaries.{IsOwner}
 use Rattle.board_core.specs.Barrings.{IsBarring, IsCovered, IsFenceReason, IsUnfenceReason, IsEntitleReason}
 use Rattle.board_core.specs.Reservings.{IsReserveReason}
+use Rattle.board_core.specs.Clean.{IsCleanBoard}
+use Rattle.board_core.specs.Clearances.{IsRuleReason}
 use Rattle.board_core.specs.Edits.{IsEditReason, IsClashReason}
 
 -- neither of two reasons
@@ -29,7 +32,7 @@ IsUnbarred p b client deletes adds = (n : ℕ) → IsBarring p b client deletes 
 
 -- an edit: no two of its adds are too near, no boundary bars the client, and no add is too near to what stays
 pub edit_none : (p : Parts) (clients : ℕ) (b : Board) (client : ℕ) (deletes : List ℕ) (adds : List Add) → IsEditReason p clients b client deletes adds None
-    → IsOwnReason p 1 adds None × IsUnbarred p b client deletes adds × IsClashReason p b.live deletes 1 adds None
+    → IsOwnReason p b.rules 1 adds None × IsUnbarred p b client deletes adds × IsClashReason p b.rules b.live deletes 1 adds None
 edit_none p clients b client deletes adds h =
     let parts = then_none h in
     let alone = then_none (first_none parts.0).1 in
@@ -53,3 +56,7 @@ unfence_none b client n h = (first_none (first_none h).1).0
 -- an entitle: the client owns the boundary
 pub entitle_none : (clients : ℕ) (b : Board) (client n other : ℕ) → IsEntitleReason clients b client n other None → (IsOwner b.fences n client → ⊥) → ⊥
 entitle_none clients b client n other h = unfence_none b client n (then_none h).0
+
+-- a change of a clearance: no two live items are too near under the rules with it
+pub rule_none : (p : Parts) (clients : ℕ) (b : Board) (class clearance : ℕ) → IsRuleReason p clients b class clearance None → IsCleanBoard p (with_rule class clearance b.rules) b.live
+rule_none p clients b class clearance h = (then_none h).1

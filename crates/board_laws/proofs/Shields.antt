@@ -5,6 +5,7 @@ use Rattle.board_items.specs.declared.history.Act.{Act}
 use Rattle.board_items.specs.declared.history.Act.TheVariants as acts
 use Rattle.board_items.specs.declared.history.Call.{Call}
 use Rattle.board_rules.specs.declared.design.Parts.{Parts}
+use Rattle.board_rules.specs.Rules.{with_rule}
 use Rattle.number_slots.specs.Slots.{without, IsAt}
 use Rattle.number_slots.proofs.ByNumber.{at_front}
 use Rattle.boundaries.specs.Boundaries.{Boundary, entitled_at, IsEntitled}
@@ -16,7 +17,7 @@ use Rattle.board_laws.proofs.Refusals.{edit_none, reserve_none, unfence_none, en
 use Rattle.board_laws.proofs.Order.{IsOrdered, step_ordered, first_ordered}
 use Rattle.board_laws.proofs.Guards.{IsGuardedBoard, step_guarded}
 use Rattle.board_laws.proofs.Steps.{IsStep, kept_to, step_at, legal_steps}
-use Rattle.board_laws.proofs.Foreign.{edit_same, reserve_same, release_same, leave_same, fence_same, not_owned, unfence_at}
+use Rattle.board_laws.proofs.Foreign.{edit_same, reserve_same, release_same, leave_same, fence_same, rule_same, not_owned, unfence_at}
 
 step_same : (p : Parts) (clients : ℕ) (b : Board) (client : ℕ) (act : Act) (n : ℕ) (f : Boundary) → IsOrdered b → IsGuardedBoard p b → IsStep p clients b client act → IsAt b.fences n f → (IsEntitled f client → ⊥) → IsSameWithin p n f b (after b client act)
 step_same p clients b client (acts.Ask (requests.Edit deletes adds)) n f order is step at_n foreign = edit_same p b client deletes adds n f (edit_none p clients b client deletes adds step).1 at_n foreign
@@ -27,6 +28,7 @@ step_same p clients b client (acts.Ask (requests.Unfence fence)) n f order is st
     fence_same p b n f (without (fence ∷ []) b.fences) b.last (unfence_at b fence n f (not_owned b client fence n f order (unfence_none b client fence step) at_n foreign) at_n)
 step_same p clients b client (acts.Ask (requests.Entitle fence other)) n f order is step at_n foreign =
     fence_same p b n f (entitled_at fence other b.fences) b.last (other_stays fence other b.fences n f (not_owned b client fence n f order (entitle_none clients b client fence other step) at_n foreign) at_n)
+step_same p clients b client (acts.Ask (requests.Rule class clearance)) n f order is step at_n foreign = rule_same p b n f (with_rule class clearance b.rules) at_n
 step_same p clients b client acts.Leave n f order is step at_n foreign = leave_same p b client n f is at_n foreign
 
 -- ---- journals

@@ -7,10 +7,11 @@ ghost use Rattle.board_core.specs.Clean.{IsCleanBoard};
 ghost use Rattle.board_core.specs.Histories.{IsLegal, journal_of};
 ghost use Rattle.board_core.specs.Shields.{IsShielded};
 
-/// Where no two loaded items are too near, no two live ones are after any number of entries of a legal history.
+/// Where no two loaded items are too near under the rules that the design starts with, no two live ones are under the
+/// board's rules after any number of entries of a legal history.
 pub fn every_board_is_clean()
-    ensures { (p : Parts) (clients limit : ℕ) (calls : List Call) (k : ℕ) → IsCleanBoard p (first_board p).live
-        → IsLegal p clients limit calls → IsCleanBoard p (board_at p (journal_of calls) k).live }
+    ensures { (p : Parts) (clients limit : ℕ) (calls : List Call) (k : ℕ) → IsCleanBoard p (first_board p).rules (first_board p).live
+        → IsLegal p clients limit calls → IsCleanBoard p (board_at p (journal_of calls) k).rules (board_at p (journal_of calls) k).live }
 {}
 
 /// Each entry of a legal history leaves what lies in each live boundary in which its client isn't entitled: the items that

@@ -7,7 +7,8 @@ ghost use Rattle.seg_geometry.specs.Points.{IsInRange};
 
 use board_items::{Item, Items, Stacks};
 use board_rules::{
-    Areas, ClassRow, ClassRows, Design, Names, NetRow, NetRows, Parts, Stated, StatedRows, What,
+    Areas, ClassRow, ClassRows, Design, Names, NetRow, NetRows, PairRows, Parts, Stated,
+    StatedRows, What,
 };
 use row_lists::Row;
 use seg_geometry::{Points, Pt};
@@ -93,6 +94,7 @@ fn parts(alloc: Global, y: u16) -> Result<Parts, AllocError>
         stacks: Stacks::new(alloc),
         nets: two_nets(alloc)?,
         classes: one_class(alloc)?,
+        pairs: PairRows::new(alloc),
         outline: Areas::new(alloc),
         items: two_wires(alloc, y)?,
     })

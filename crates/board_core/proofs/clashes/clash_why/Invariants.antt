@@ -12,6 +12,6 @@ use Rattle.board_core.proofs.clashes.clash_why.Given as goal
 abbrev pub invariant-loop-i : goal.invariant-loop-i
 invariant-loop-i g l = record {
   fit : AllByRecursion (IsFitAdd l.design.parts) (drop l.i l.adds);
-  same : (w : Option Why) → IsClashReason l.design.parts l.board.live l.deletes (l.i + 1) (drop l.i l.adds) w → IsClashReason l.design.parts l.board.live l.deletes 1 l.adds w;
+  same : (w : Option Why) → IsClashReason l.design.parts l.board.rules l.board.live l.deletes (l.i + 1) (drop l.i l.adds) w → IsClashReason l.design.parts l.board.rules l.board.live l.deletes 1 l.adds w;
   cost : l.steps + clashes_most l.design.parts (without l.deletes l.board.live) (drop l.i l.adds) ≤ l.initial.steps + clashes_most l.design.parts (without l.deletes l.board.live) l.adds;
 }

@@ -1,4 +1,4 @@
-use Rattle.std.proofs.Common.{arith, ◌≡◌, true, false, length}
+use Rattle.std.proofs.Common.{arith, ◌≡◌, true, false}
 use Rattle.board_core.specs.Costs.{area_most}
 use Rattle.number_slots.proofs.Sums.{sum_at}
 use Rattle.board_core.proofs.Covered.{pair_apart}
@@ -21,10 +21,10 @@ returns-then-not-touches_area-clause-least g c =
 
 pub returns-then-not-touches_area-clause-cost : goal.returns-then-not-touches_area-clause-cost
 returns-then-not-touches_area-clause-cost g c =
-    let taken = rw (c.stacks.ensures, c.view.ensures, c.as_slice-2.ensures) at c.touches_area.ensures.cost in
-    let most = sum_at (area_most c.args.design.now.parts (length c.args.area.now)) c.args.pair.0.0 c.args.board.now.live c.in_ok-item.item.now c.in_ok-item.ensures.some in omega (arith, taken, most)
+    let taken = rw (c.stacks.ensures, c.view.ensures, c.as_slice.ensures, c.as_slice-2.ensures) at c.touches_area.ensures.cost in
+    let most = sum_at (area_most c.args.design.now.parts c.args.layers.now c.args.area.now) c.args.pair.0.0 c.args.board.now.live c.in_ok-item.item.now c.in_ok-item.ensures.some in omega (arith, taken, most)
 
 pub returns-clause-cost : goal.returns-clause-cost
 returns-clause-cost g c =
-    let taken = rw (c.stacks.ensures, c.view.ensures, c.as_slice-2.ensures) at c.touches_area.ensures.cost in
-    let most = sum_at (area_most c.args.design.now.parts (length c.args.area.now)) c.args.pair.0.0 c.args.board.now.live c.in_ok-item.item.now c.in_ok-item.ensures.some in omega (arith, taken, most)
+    let taken = rw (c.stacks.ensures, c.view.ensures, c.as_slice.ensures, c.as_slice-2.ensures) at c.touches_area.ensures.cost in
+    let most = sum_at (area_most c.args.design.now.parts c.args.layers.now c.args.area.now) c.args.pair.0.0 c.args.board.now.live c.in_ok-item.item.now c.in_ok-item.ensures.some in omega (arith, taken, most)

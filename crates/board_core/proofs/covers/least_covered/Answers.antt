@@ -16,7 +16,7 @@ loop-i-preserved g c =
     let x : ℕ × ℕ = (c.in_ok-pair.pair.0.0, c.in_ok-pair.pair.1) in
     let S = λ (y : ℕ × ℕ) (id : ℕ). IsCoveredPair p b.live c.args.client c.args.layers.now c.args.area.now y id in
     let there : slice_get b.held i ≡ Some x = ap (λ (xs : List (ℕ × ℕ)). slice_get xs i) (sym c.held-in-loop-i.ensures) ∙ c.in_ok-pair.ensures.some in
-    let cut = ap (held_most p b.live (length c.args.area.now)) (left_there b.held i x there) in record {
+    let cut = ap (held_most p b.live c.args.layers.now c.args.area.now) (left_there b.held i x there) in record {
       least = subst (λ (r : Option ℕ). IsLeast (λ id. AnyOf (λ (y : ℕ × ℕ). S y id) (take (i + 1) b.held)) r) (sym c.lesser-least.ensures)
           (least_more S b.held i x c.loop-i.least c.covered.result there c.loop-i.invariant.least c.covered.ensures.least);
       cost = omega (arith, cut, c.covered.ensures.cost, c.loop-i.invariant.cost);

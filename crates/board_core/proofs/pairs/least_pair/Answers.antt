@@ -1,40 +1,51 @@
-use Rattle.std.proofs.Common.{◌+◌, List, drop, subst, ap, arith}
+use Rattle.std.proofs.Common.{ℕ, ◌+◌, [], arith}
 use Rattle.std.specs.Prelude.{Some, None}
 use Rattle.board_items.specs.declared.items.Item.{Item}
-use Rattle.board_rules.specs.Designs.{IsFitItem}
-use Rattle.board_rules.proofs.Walked.{all_left, left_is}
-use Rattle.board_core.specs.Costs.{pairs_most}
-use Rattle.board_core.specs.Clean.{IsNearest, KeepsAll}
-use Rattle.number_slots.specs.Slots.{numbered}
-use Rattle.board_core.proofs.Cleaned.{clean_at, pair_at, clean_none}
+use Rattle.board_rules.specs.Rules.{under}
+use Rattle.number_slots.specs.Leasts.{IsLeast}
+use Rattle.board_core.specs.Edits.{IsNear}
+use Rattle.board_core.specs.LiveItems.{live_from}
+use Rattle.board_core.proofs.LiveItems.{walk_over}
+use Rattle.board_core.proofs.Near.{fit_rest, rises_rest}
+use Rattle.board_core.proofs.Cleaned.{clean_on, pair_here, clean_end, pairs_on}
 use Rattle.board_core.proofs.pairs.least_pair.Goals as goal
 
-pub returns-in-Some-clause-some : goal.returns-in-Some-clause-some
-returns-in-Some-clause-some g c =
+pub least_near-requires-clause-rising : goal.least_near-requires-clause-rising
+least_near-requires-clause-rising g c =
+    let x : ℕ × Item = (c.in-Some.id.0, c.in-Some.item.now) in
+    rises_rest (live_from c.args.items c.loop-i.i) x (live_from c.args.items (c.loop-i.i + 1)) c.in-Some.ensures.some c.loop-i.invariant.rising
+
+pub returns-in-Some-least_near-clause-some : goal.returns-in-Some-least_near-clause-some
+returns-in-Some-least_near-clause-some g c =
     let p = c.args.design.now.parts in
-    let items = c.args.items.now in
-    let b = c.in-Some.other in
-    let x = c.index-items-i.result in
-    let h : IsNearest p x (numbered (c.loop-i.i + 1 + 1) (drop (c.loop-i.i + 1) items)) b.0 = subst (λ (rest : List Item). IsNearest p x (numbered (c.loop-i.i + 1 + 1) rest) b.0) c.split_at.ensures.back c.in-Some.ensures.some in
-    c.loop-i.invariant.same (Some (record { 0 = c.loop-i.i + 1 }, b)) (pair_at p c.loop-i.i items x b.0 c.loop-i-test.true c.index-items-i.is h)
+    let rest = live_from c.args.items (c.loop-i.i + 1) in
+    let x : ℕ × Item = (c.in-Some.id.0, c.in-Some.item.now) in
+    let b = c.in-Some-least_near.other in
+    let near : IsLeast (IsNear p (under c.args.rules) rest [] x.1) (Some b) = rw c.view.ensures at c.in-Some-least_near.ensures.least in
+    c.loop-i.invariant.same (Some (c.in-Some.id, record { 0 = b })) (pair_here p (under c.args.rules) (live_from c.args.items c.loop-i.i) x rest b c.in-Some.ensures.some c.loop-i.invariant.rising near)
+
+pub returns-in-Some-least_near-clause-cost : goal.returns-in-Some-least_near-clause-cost
+returns-in-Some-least_near-clause-cost g c =
+    let x : ℕ × Item = (c.in-Some.id.0, c.in-Some.item.now) in
+    let on = pairs_on c.args.design.now.parts (live_from c.args.items c.loop-i.i) x (live_from c.args.items (c.loop-i.i + 1)) c.in-Some.ensures.some in
+    let taken = rw c.view.ensures at c.least_near.ensures.cost in omega (arith, on, taken, c.loop-i.invariant.cost)
 
 pub loop-i-preserved : goal.loop-i-preserved
 loop-i-preserved g c =
     let p = c.args.design.now.parts in
-    let items = c.args.items.now in
-    let x = c.index-items-i.result in
-    let keeps : KeepsAll p x (numbered (c.loop-i.i + 1 + 1) (drop (c.loop-i.i + 1) items)) = subst (λ (rest : List Item). KeepsAll p x (numbered (c.loop-i.i + 1 + 1) rest)) c.split_at.ensures.back c.in_default.ensures.none in record {
-      fit = all_left (IsFitItem p) items c.loop-i.i x c.loop-i-test.true c.index-items-i.is c.loop-i.invariant.fit;
-      same = λ r h. c.loop-i.invariant.same r (clean_at p c.loop-i.i items x r c.loop-i-test.true c.index-items-i.is keeps h);
-      cost =
-          let more = ap (pairs_most p) (left_is items c.loop-i.i x c.loop-i-test.true c.index-items-i.is) in
-          let taken = rw c.split_at.ensures.back at c.first_near.ensures.cost in omega (arith, more, taken, c.loop-i.invariant.cost);
+    let xs = live_from c.args.items c.loop-i.i in
+    let rest = live_from c.args.items (c.loop-i.i + 1) in
+    let x : ℕ × Item = (c.in-Some.id.0, c.in-Some.item.now) in
+    let cut = c.in-Some.ensures.some in
+    let none : IsLeast (IsNear p (under c.args.rules) rest [] x.1) None = rw c.view.ensures at c.in_default-least_near.ensures.least in
+    let taken = rw c.view.ensures at c.least_near.ensures.cost in record {
+      fit = fit_rest p xs x rest cut c.loop-i.invariant.fit;
+      rising = rises_rest xs x rest cut c.loop-i.invariant.rising;
+      same = λ r h. c.loop-i.invariant.same r (clean_on p (under c.args.rules) xs x rest r cut c.loop-i.invariant.rising none h);
+      cost = let on = pairs_on p xs x rest cut in omega (arith, on, taken, c.loop-i.invariant.cost);
     }
 
 pub returns-clause-none : goal.returns-clause-none
-returns-clause-none g c = c.loop-i.invariant.same None (clean_none c.args.design.now.parts (c.loop-i.i + 1) c.loop-i.i c.args.items.now c.loop-i-test.false)
-
-pub returns-in-Some-clause-cost : goal.returns-in-Some-clause-cost
-returns-in-Some-clause-cost g c =
-    let more = ap (pairs_most c.args.design.now.parts) (left_is c.args.items.now c.loop-i.i c.index-items-i.result c.loop-i-test.true c.index-items-i.is) in
-    let taken = rw c.split_at.ensures.back at c.first_near.ensures.cost in omega (arith, more, taken, c.loop-i.invariant.cost)
+returns-clause-none g c =
+    let over = walk_over c.args.items c.loop-i.i (omega (arith, c.loop-i-test.false, c.len-i-end.ensures)) in
+    c.loop-i.invariant.same None (clean_end c.args.design.now.parts (under c.args.rules) (live_from c.args.items c.loop-i.i) over)
