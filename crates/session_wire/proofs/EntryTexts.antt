@@ -12,7 +12,7 @@ use Rattle.session_wire.specs.Parts.{Then, Begins, StopsAt}
 use Rattle.session_wire.specs.Readings.{Reads, HasLeft}
 use Rattle.session_wire.specs.EntryLines.{next_act_text, IsEntry, HasEntry}
 use Rattle.session_wire.proofs.WordParts.{word_split, bytes_without}
-use Rattle.session_wire.proofs.NumberTexts.{same_number}
+use Rattle.session_wire.proofs.PointTexts.{betweens}
 use Rattle.session_wire.proofs.PlaceLaws.{place_behind, place_first}
 use Rattle.session_wire.proofs.Things.{IsSpelling}
 use Rattle.session_wire.proofs.Pairs.{AreBoth, both_text, both_then, stops_at_first, stops_at_second, both}
@@ -25,11 +25,8 @@ use Rattle.session_wire.proofs.ActTexts.{all_acts}
 abbrev IsPlace : ℕ → Type 0
 IsPlace = IsBetween 1 4294967295
 
-same_place : (n m : ℕ) (r s : List ℕ) → IsPlace n → IsPlace m → EndsWord r → EndsWord s → number_text n ++ r ≡ number_text m ++ s → (n ≡ m) × (r ≡ s)
-same_place n m r s f g = same_number n m r s (omega (arith, f.1)) (omega (arith, g.1))
-
 places : IsSpelling IsPlace number_text
-places = record { sample = 1; fits = (omega arith, omega arith); first = λ n r stop. refl; same = same_place }
+places = betweens 1 4294967295 (omega arith) (omega arith)
 
 -- the client and the act behind an entry's number
 abbrev IsDone : (ℕ × Act) → Type 0

@@ -11,7 +11,7 @@ use Rattle.session_wire.specs.Parts.{Then, Begins, StopsAt}
 use Rattle.session_wire.proofs.WordParts.{bytes_without}
 use Rattle.session_wire.proofs.PointTexts.{ids}
 use Rattle.session_wire.proofs.WordKinds.{IsMade, IsKind, kind_then, in_kind}
-use Rattle.session_wire.proofs.RequestWords.{word_of, third, request_kind}
+use Rattle.session_wire.proofs.RequestWords.{word_of, third, second, request_kind}
 
 abbrev pub make_reserve : ℕ → Request
 make_reserve n = requests.Reserve (record { 0 = n })
@@ -25,7 +25,7 @@ reserve_made q f e = absurd (omega (arith, third (codes "reserve") (word_of q) e
 
 release_made : (q : Request) → IsFormed q → codes "release" ≡ word_of q → IsMade IsId make_release q
 release_made (requests.Release id) f e = record { thing = id.0; formed = f; is = refl }
-release_made q f e = absurd (omega (arith, third (codes "release") (word_of q) e))
+release_made q f e = absurd (omega (arith, third (codes "release") (word_of q) e, second (codes "release") (word_of q) e))
 
 pub reserves : IsKind IsFormed request_text IsId number_text (codes "reserve") make_reserve
 reserves = request_kind IsId number_text (codes "reserve") make_reserve ids (bytes_without 32 (codes "reserve") refl) (λ x f. f) (λ x. refl) reserve_made

@@ -127,6 +127,11 @@ request_short (requests.Entitle fence client) f =
     let one = length-append (codes "entitle") (number_text fence ++ number_text client) in
     let two = length-append (number_text fence) (number_text client) in
     omega (arith, one, two, id_short fence f.0, small_short client f.1)
+request_short (requests.Rule class clearance) f =
+    let one = length-append (codes "rule") (number_text class ++ number_text clearance) in
+    let two = length-append (number_text class) (number_text clearance) in
+    let far = number_short 9 clearance (omega arith) (omega (arith, f.1)) (omega (arith, f.1)) in
+    omega (arith, one, two, id_short class f.0, far)
 
 -- a step's text has at most 398,672 bytes
 pub step_short : (step : ScriptStep) → IsStep step → length (step_text step) ≤ 398672

@@ -19,6 +19,7 @@ pub mod PointTexts
 pub mod ReadingLaws
 pub mod RequestTexts
 pub mod RequestWords
+pub mod RuleTexts
 pub mod StepTexts
 pub mod Stops
 pub mod Things

@@ -109,6 +109,7 @@ request_line (requests.Release id) f = behind (codes "release") (number_text id.
 request_line (requests.Fence layers area clients) f = fence_line layers area clients f
 request_line (requests.Unfence fence) f = behind (codes "unfence") (number_text fence) refl (number_line fence f)
 request_line (requests.Entitle fence client) f = behind (codes "entitle") (number_text fence ++ number_text client) refl (line_append (number_text fence) (number_text client) (number_line fence f.0) (small_line client f.1))
+request_line (requests.Rule class clearance) f = behind (codes "rule") (number_text class ++ number_text clearance) refl (line_append (number_text class) (number_text clearance) (number_line class f.0) (number_line clearance (omega (arith, f.1))))
 
 pub step_is_one_line : (step : ScriptStep) → IsStep step → IsLine (step_text step)
 step_is_one_line (steps.Do client q) f = behind (codes "do") (number_text client ++ next_request_text q) refl (line_append (number_text client) (next_request_text q) (number_line client (omega (arith, f.1))) (spaced (request_text q) (request_line q f.2)))

@@ -1,12 +1,12 @@
 -- The points at the front of a line, and the numbers of items.
-use Rattle.std.proofs.Common.{◌≡◌, ℕ, List, [], ◌++◌, refl, sym, ap, ◌∙◌, arith, append_assoc}
+use Rattle.std.proofs.Common.{◌≡◌, ℕ, ◌^◌, ◌<◌, ◌≤◌, List, [], ◌++◌, refl, sym, ap, ◌∙◌, arith, append_assoc}
 use Rattle.std.specs.Prelude.{ℤ}
 use Rattle.std.proofs.Math.IntN.{pos}
 use Rattle.std.proofs.lemmas.List.{append-nil}
 use Rattle.seg_geometry.specs.Points.{IsInRange}
 use Rattle.seg_geometry.specs.declared.points.Pt.{Pt}
 use Rattle.session_wire.specs.Words.{EndsWord}
-use Rattle.session_wire.specs.Numbers.{number_text, IsId, IsSmall}
+use Rattle.session_wire.specs.Numbers.{number_text, IsBetween, IsId, IsSmall}
 use Rattle.session_wire.specs.Points.{coordinate_text, point_text, IsCoordinate}
 use Rattle.session_wire.specs.Parts.{Then, Begins, StopsAt}
 use Rattle.session_wire.proofs.NumberTexts.{same_number, same_coordinate}
@@ -67,3 +67,12 @@ same_small n m r s low short = same_number n m r s (omega (arith, low)) (omega (
 -- each number of a layer or a client of a boundary has one text
 pub smalls : IsSpelling IsSmall number_text
 smalls = record { sample = 0; fits = omega arith; first = λ n r stop. refl; same = same_small }
+
+-- each number between two bounds has one text
+pub betweens : (least most : ℕ) → least ≤ most → most < 2 ^ 32 → IsSpelling (IsBetween least most) number_text
+betweens least most some low = record {
+  sample = least;
+  fits = (omega arith, some);
+  first = λ n r stop. refl;
+  same = λ n m r s f g. same_number n m r s (omega (arith, low, f.1)) (omega (arith, low, g.1));
+}

@@ -17,6 +17,7 @@ use Rattle.session_wire.proofs.RequestWords.{word_of, same_word}
 use Rattle.session_wire.proofs.EditTexts.{edits, edit_formed}
 use Rattle.session_wire.proofs.HeldTexts.{reserves, releases}
 use Rattle.session_wire.proofs.FenceTexts.{fences, fence_formed, unfences, entitles}
+use Rattle.session_wire.proofs.RuleTexts.{rules, rule_formed}
 
 abbrev IsRequest : List ℕ → Type 0
 IsRequest = Begins IsFormed next_request_text
@@ -42,6 +43,7 @@ pub record BeginsNone (word : List ℕ) : Type 0 where
   pub no_fence : word ≢ codes "fence"
   pub no_unfence : word ≢ codes "unfence"
   pub no_entitle : word ≢ codes "entitle"
+  pub no_rule : word ≢ codes "rule"
 
 no_word : (word : List ℕ) → BeginsNone word → (q : Request) → word ≢ word_of q
 no_word word none (requests.Edit deletes adds) = none.no_edit
@@ -50,6 +52,7 @@ no_word word none (requests.Release id) = none.no_release
 no_word word none (requests.Fence layers area clients) = none.no_fence
 no_word word none (requests.Unfence fence) = none.no_unfence
 no_word word none (requests.Entitle fence client) = none.no_entitle
+no_word word none (requests.Rule class clearance) = none.no_rule
 
 -- a word that begins no request
 bad_request : (line word rest : List ℕ) → IsWord word → EndsWord rest → line ≡ 32 ∷ (word ++ rest) → BeginsNone word → StopsAt (Begins IsFormed next_request_text) line (length line - 1)
@@ -74,6 +77,7 @@ same_of (requests.Release id) q r s f g stop end e = same_kind releases id.0 q r
 same_of (requests.Fence ls ps cs) q r s f g stop end e = same_kind fences (ls, (ps, cs)) q r s (fence_formed ls ps cs f) g stop end e
 same_of (requests.Unfence fence) q r s f g stop end e = same_kind unfences fence q r s f g stop end e
 same_of (requests.Entitle fence client) q r s f g stop end e = same_kind entitles (fence, client) q r s f g stop end e
+same_of (requests.Rule class clearance) q r s f g stop end e = same_kind rules (class, clearance) q r s (rule_formed class clearance f) g stop end e
 
 same_request : (p q : Request) (r s : List ℕ) → IsFormed p → IsFormed q → EndsWord r → EndsWord s → next_request_text p ++ r ≡ next_request_text q ++ s → (p ≡ q) × (r ≡ s)
 same_request p q r s f g stop end e = same_of p q r s f g stop end (cons_is (request_text p ++ r) (request_text q ++ s) e)

@@ -19,7 +19,7 @@ use Rattle.session_wire.specs.Places.{IsBadAt}
 use Rattle.session_wire.specs.Parts.{Then, Begins, StopsAt, WhyHalts}
 use Rattle.session_wire.specs.Steps.{IsStep, Reads, HasStep, HasLeft, WhyStopped, WhyUnread, Gives}
 use Rattle.session_wire.proofs.WordParts.{word_split, bytes_without}
-use Rattle.session_wire.proofs.NumberTexts.{same_number}
+use Rattle.session_wire.proofs.PointTexts.{betweens}
 use Rattle.session_wire.proofs.RequestTexts.{all_requests}
 use Rattle.session_wire.proofs.Stops.{stops_behind}
 use Rattle.session_wire.proofs.PlaceLaws.{one_place, no_place, place_behind, place_first}
@@ -31,12 +31,9 @@ use Rattle.session_wire.proofs.Wholes.{IsWhole, stops_in_whole, stops_behind_who
 abbrev pub IsClient : ℕ → Type 0
 IsClient = IsBetween 1 client_limit
 
-same_client : (n m : ℕ) (r s : List ℕ) → IsClient n → IsClient m → EndsWord r → EndsWord s → number_text n ++ r ≡ number_text m ++ s → (n ≡ m) × (r ≡ s)
-same_client n m r s f g = same_number n m r s (omega (arith, f.1)) (omega (arith, g.1))
-
 -- each number of a client has one text
 pub clients : IsSpelling IsClient number_text
-clients = record { sample = 1; fits = (omega arith, omega arith); first = λ n r stop. refl; same = same_client }
+clients = betweens 1 client_limit (omega arith) (omega arith)
 
 -- the client and the request behind the word `do`
 abbrev pub AreAsked : (ℕ × Request) → Type 0

@@ -14,7 +14,7 @@ one_text word a = word ++ number_text a
 abbrev pub two_text : List ℕ → ℕ → ℕ → List ℕ
 two_text word a b = word ++ (number_text a ++ number_text b)
 
--- a reason: its word, and the adds, items, clients, layers or boundaries that it names
+-- a reason: its word, and the adds, items, clients, layers, boundaries or classes that it names
 abbrev pub why_text : Why → List ℕ
 why_text whys.Empty = codes "empty"
 why_text (whys.Net add) = one_text (codes "net") add
@@ -38,6 +38,8 @@ why_text (whys.Overlap fence) = one_text (codes "overlap") fence
 why_text (whys.Covers id) = one_text (codes "covers") id.0
 why_text (whys.NoFence fence) = one_text (codes "nofence") fence
 why_text (whys.NotOwner fence) = one_text (codes "notowner") fence
+why_text (whys.NoClass class) = one_text (codes "noclass") class
+why_text (whys.Unclean a b) = two_text (codes "unclean") a.0 b.0
 
 abbrev pub reply_text : Reply → List ℕ
 reply_text (replies.Done number) = one_text (codes "ok") number

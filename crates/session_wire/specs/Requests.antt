@@ -25,6 +25,7 @@ request_text (requests.Release id) = codes "release" ++ number_text id.0
 request_text (requests.Fence layers area clients) = fence_text layers area clients
 request_text (requests.Unfence fence) = codes "unfence" ++ number_text fence
 request_text (requests.Entitle fence client) = codes "entitle" ++ (number_text fence ++ number_text client)
+request_text (requests.Rule class clearance) = codes "rule" ++ (number_text class ++ number_text clearance)
 
 -- a request behind a space
 abbrev pub next_request_text : Request → List ℕ

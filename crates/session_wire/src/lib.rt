@@ -18,6 +18,7 @@ mod put_parts;
 mod put_replies;
 mod put_requests;
 mod requests;
+mod rules;
 mod script_lines;
 mod small_numbers;
 mod steps;
@@ -35,6 +36,3 @@ pub use script_lines::{
 };
 pub use steps::{ScriptStep, ScriptSteps};
 pub use writing::{write_entry, write_reply};
-
-#[cfg(test)]
-mod tests;

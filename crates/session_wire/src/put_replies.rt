@@ -33,6 +33,8 @@ fn put_why(to: &mut Bytes, why: Why) -> Result<(), AllocError>
         Why::Covers { id } => put_one(to, b"covers", id.0),
         Why::NoFence { fence } => put_one(to, b"nofence", fence),
         Why::NotOwner { fence } => put_one(to, b"notowner", fence),
+        Why::NoClass { class } => put_one(to, b"noclass", class),
+        Why::Unclean { a, b } => put_two(to, b"unclean", a.0, b.0),
     }
 }
 

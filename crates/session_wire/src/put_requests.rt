@@ -83,5 +83,6 @@ pub(crate) fn put_request(to: &mut Bytes, request: &Request) -> Result<(), Alloc
         } => put_fence(to, layers.as_slice(), area.as_slice(), clients.as_slice()),
         Request::Unfence { fence } => put_one(to, b"unfence", *fence),
         Request::Entitle { fence, client } => put_two(to, b"entitle", *fence, u32::from(*client)),
+        Request::Rule { class, clearance } => put_two(to, b"rule", *class, *clearance),
     }
 }

@@ -9,6 +9,7 @@ use crate::edits::edit_at;
 use crate::faults::Halt;
 use crate::fences::{entitle_at, fence_at, unfence_at};
 use crate::held_items::{release_at, reserve_at};
+use crate::rules::rule_at;
 use crate::words::{is_word, word_at};
 use board_items::Request;
 use std::alloc::Global;
@@ -41,6 +42,9 @@ pub(crate) fn request_behind<'a>(
     }
     if is_word(word, b"entitle") {
         return entitle_at(rest);
+    }
+    if is_word(word, b"rule") {
+        return rule_at(rest);
     }
     Err(Halt::Left {
         left: word.len() + rest.len(),

@@ -29,6 +29,10 @@ pub returns-then-is_word-6-clause-err : goal.returns-then-is_word-6-clause-err
 returns-then-is_word-6-clause-err c =
     same_halt c.entitle_at.result c.entitle_at.ensures.err (λ left. stops_in_request (codes "entitle") (32 ∷ (c.args.word.now ++ c.args.rest.now)) c.args.word.now c.args.rest.now left c.requires.ends refl (c.if-is_word-6.ensures.0 refl))
 
+pub returns-then-is_word-7-clause-err : goal.returns-then-is_word-7-clause-err
+returns-then-is_word-7-clause-err c =
+    same_halt c.rule_at.result c.rule_at.ensures.err (λ left. stops_in_request (codes "rule") (32 ∷ (c.args.word.now ++ c.args.rest.now)) c.args.word.now c.args.rest.now left c.requires.ends refl (c.if-is_word-7.ensures.0 refl))
+
 pub returns-clause-err : goal.returns-clause-err
 returns-clause-err c =
     bad_request_left c.args.word.now c.args.rest.now c.requires.word c.requires.ends (record {
@@ -38,4 +42,5 @@ returns-clause-err c =
       no_fence = λ e. not_true (c.if-is_word-4.ensures.1 e);
       no_unfence = λ e. not_true (c.if-is_word-5.ensures.1 e);
       no_entitle = λ e. not_true (c.if-is_word-6.ensures.1 e);
+      no_rule = λ e. not_true (c.if-is_word-7.ensures.1 e);
     })
