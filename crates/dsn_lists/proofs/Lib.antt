@@ -33,3 +33,5 @@ pub mod NewNameLaws
 pub mod Ranges
 pub mod Growing
 pub mod Whole
+pub mod KeyedLaws
+pub mod ClearancesLaws

@@ -47,7 +47,7 @@ width_all u End h = tt
 width_all u (Word a text rest) h = (h.0, tt)
 width_all u (Branch a inside rest) h = tt
 
-clearance_all : (u : LengthUnit) (f : Forest) → IsClearance u f → AllClaims u (clearance_claims f)
+pub clearance_all : (u : LengthUnit) (f : Forest) → IsClearance u f → AllClaims u (clearance_claims f)
 clearance_all u End h = tt
 clearance_all u (Word a text rest) h = claims_all u text _ h.0
 clearance_all u (Branch a inside rest) h = tt
@@ -70,7 +70,7 @@ last_width u o w [] h all = h
 last_width u o w (None ∷ ws) h all = absurd all
 last_width u o w (Some text ∷ ws) h all = last_width u (Some text) (Some (width_value u text)) ws (all.0.0, all.0.1, ap (λ (n : ℕ). Some n) (value_is u text all.0.0 all.0.1)) all.1
 
-all_stated : (u : LengthUnit) (cs : List Claim) → AllClaims u cs → AreStated u cs (map (claimed u) cs)
+pub all_stated : (u : LengthUnit) (cs : List Claim) → AllClaims u cs → AreStated u cs (map (claimed u) cs)
 all_stated u [] all = refl
 all_stated u (c ∷ cs) all = (refl, rw (value_is u c.size all.0.0 all.0.1) all.0.1, all_stated u cs all.1)
 
@@ -86,7 +86,7 @@ last_valued : (u : LengthUnit) (o : Option (List ℕ)) (ws : List (Option (List 
 last_valued u o [] = refl
 last_valued u o (w ∷ ws) = last_valued u w ws
 
-stated_are : (u : LengthUnit) (cs : List Claim) (ss : List Stated) → AreStated u cs ss → ss ≡ map (claimed u) cs
+pub stated_are : (u : LengthUnit) (cs : List Claim) (ss : List Stated) → AreStated u cs ss → ss ≡ map (claimed u) cs
 stated_are u [] ss h = h
 stated_are u (c ∷ cs) [] h = absurd h
 stated_are u (c ∷ cs) (s ∷ ss) h =

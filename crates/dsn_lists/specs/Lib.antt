@@ -20,3 +20,4 @@ pub mod TrailLists
 pub mod ShapeLists
 pub mod NewNames
 pub mod NextLists
+pub mod Keyed

@@ -1,5 +1,5 @@
 -- Lengths and widths in words.
-use Rattle.std.specs.Prelude.{ℕ, ℤ, pos, int_lt, unsigned_abs, ◌||◌, List, Result, Ok, Err, if◌then◌else◌}
+use Rattle.std.specs.Prelude.{ℕ, ℤ, pos, int_lt, unsigned_abs, ◌||◌, Result, Ok, Err, if◌then◌else◌}
 use Rattle.row_lists.specs.Limits.{width_limit_nm}
 use Rattle.sexp_text.specs.declared.units.Unit.{Unit as LengthUnit}
 use Rattle.sexp_text.specs.declared.num_fault.NumFault.{NumFault}

@@ -1,6 +1,6 @@
 -- The one list of a design: its name, its unit, and its sections.
 -- Models: the design descriptor `(pcb ..)` of the SPECCTRA reference, each section at most once.
-use Rattle.std.specs.Prelude.{ℕ, ◌==◌, nat_le, Bool, true, false, not, ◌||◌, ◌&&◌, List, codes, Option, Some, None, is_none, Ok, if◌then◌else◌}
+use Rattle.std.specs.Prelude.{ℕ, ◌==◌, nat_le, Bool, true, false, not, ◌&&◌, List, codes, Option, Some, None, Ok, if◌then◌else◌}
 use Rattle.std.specs.List.{list_any, list_all}
 use Rattle.sexp_text.specs.Forest.{Forest, End, Word, Branch}
 use Rattle.sexp_text.specs.Shows.{forest}

@@ -1,5 +1,5 @@
 -- Pairs of coordinates.
-use Rattle.std.specs.Prelude.{ℕ, ℤ, List, [], ◌∷◌, ◌++◌, Option, Some, None, Ok}
+use Rattle.std.specs.Prelude.{ℤ, List, [], ◌∷◌, ◌++◌, Option, Some, None, Ok}
 use Rattle.sexp_text.specs.Forest.{Forest, End, Word, Branch}
 use Rattle.sexp_text.specs.declared.units.Unit.{Unit as LengthUnit}
 use Rattle.seg_geometry.specs.declared.points.Pt.{Pt}

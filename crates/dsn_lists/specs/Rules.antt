@@ -9,13 +9,13 @@ use Rattle.board_rules.specs.declared.design.Kind.TheVariants.{Wire, Via, Pin, S
 use Rattle.board_rules.specs.declared.design.What.{What}
 use Rattle.board_rules.specs.declared.design.What.TheVariants.{Untyped, DefaultSmd, Pair}
 use Rattle.board_rules.specs.declared.design.Stated.{Stated}
-use Rattle.dsn_lists.specs.declared.marks.Mark.{Mark}
 use Rattle.dsn_lists.specs.declared.rules.Rule.{Rule}
 use Rattle.dsn_lists.specs.declared.rules.Typed.{Typed}
 use Rattle.dsn_lists.specs.declared.rules.RuleWord.{RuleWord}
 use Rattle.dsn_lists.specs.declared.rules.RuleWord.TheVariants as rules
 use Rattle.dsn_lists.specs.Results.{Read, ◌>>=◌, each}
-use Rattle.dsn_lists.specs.Words.{same, mark, head_of, word_of, spare}
+use Rattle.dsn_lists.specs.Words.{same, head_of, word_of, spare}
+use Rattle.dsn_lists.specs.Keyed.{keyed}
 use Rattle.dsn_lists.specs.Numbers.{width_word}
 
 -- the kind of item that a word names
@@ -101,3 +101,12 @@ rule_of u r f = each (rule_item u) r f
 
 abbrev pub no_rule : Rule
 no_rule = record { width = None; stated = [] }
+
+-- ---- rules of which clearances alone are read
+
+unfoldable pub clearances_item : LengthUnit → List Stated → ℕ → Forest → Read (List Stated)
+clearances_item u = keyed (codes "clearance") (clearance_list u)
+
+-- the clearances of a `rule` whose other lists, `width` too, are read over; behind what earlier rules stated
+abbrev pub clearances_of : LengthUnit → List Stated → Forest → Read (List Stated)
+clearances_of u ss f = each (clearances_item u) ss f

@@ -1,6 +1,6 @@
 -- Circles and paths behind the word of their layer.
 -- Models: the circle and path descriptors of the SPECCTRA reference, with round apertures alone.
-use Rattle.std.specs.Prelude.{ℕ, pos, nat_lt, Bool, true, ◌||◌, is_some, List, [], codes, length, Ok, if◌then◌else◌}
+use Rattle.std.specs.Prelude.{ℕ, pos, nat_lt, ◌||◌, is_some, List, codes, length, Ok, if◌then◌else◌}
 use Rattle.sexp_text.specs.Forest.{Forest, End, Word, Branch}
 use Rattle.sexp_text.specs.declared.units.Unit.{Unit as LengthUnit}
 use Rattle.seg_geometry.specs.declared.points.Pt.{Pt}

@@ -15,6 +15,7 @@ use Rattle.dsn_lists.specs.Words.{same, head_of}
 use Rattle.dsn_lists.specs.Rules.{rule_word}
 use Rattle.dsn_lists.specs.TypeNames.{types_named}
 use Rattle.dsn_lists.specs.Lists.{collect, Every, When, args_of, last_of, IsFirst}
+use Rattle.dsn_lists.specs.Keyed.{HoldsWith, FaultWith, given_with}
 use Rattle.dsn_lists.specs.ShortLists.{HasWord, NoWordOr, IsNameList, NameListFault}
 use Rattle.dsn_lists.specs.Measures.{IsWidth, StatesWidth, WidthWordFault, IsWidthList, WidthListFault}
 
@@ -118,6 +119,20 @@ claims_stated rules.Other f = []
 -- the statements of a list of a rule
 abbrev pub claims_in : ℕ → Forest → List Claim
 claims_in at inside = claims_stated (rule_word (head_of inside).text) (head_of inside).args
+
+-- ---- rules of which clearances alone are read
+
+-- a list of such a rule: a clearance; other lists, `width` too, are read over
+abbrev pub IsClearanceList : LengthUnit → ℕ → Forest → Type 0
+IsClearanceList u = HoldsWith (codes "clearance") (IsClearance u)
+
+-- the first fault of such a rule
+abbrev pub ClearancesFault : LengthUnit → Forest → DesignFault → Type 0
+ClearancesFault u f e = IsFirst (Every (IsClearanceList u)) (FaultWith (codes "clearance") (ClearanceFault u)) f e
+
+-- the statements of a list of such a rule
+abbrev pub clearances_in : ℕ → Forest → List Claim
+clearances_in = given_with (codes "clearance") clearance_claims
 
 -- ---- what holds
 

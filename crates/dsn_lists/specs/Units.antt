@@ -1,6 +1,6 @@
 -- Units of length, and which of them governs.
 -- Models: the unit and resolution descriptors of the SPECCTRA reference. Left out: the value of a resolution.
-use Rattle.std.specs.Prelude.{◌≡◌, ℕ, List, codes, Ok, Err, Option, Some, None, if◌then◌else◌}
+use Rattle.std.specs.Prelude.{ℕ, List, codes, Ok, Err, Option, Some, None, if◌then◌else◌}
 use Rattle.sexp_text.specs.Forest.{Forest, End, Word, Branch}
 use Rattle.sexp_text.specs.declared.units.Unit.{Unit as LengthUnit}
 use Rattle.sexp_text.specs.declared.units.Unit.TheVariants.{Inch, Mil, Cm, Mm, Um}

@@ -22,7 +22,7 @@ pub use names::NameSet;
 pub use new_names::{check_fresh, check_new};
 pub use pcb::{Place, Section, Title, section_of, title_of};
 pub use places::{Coordinates, coordinates_at};
-pub use rules::{Rule, read_rule};
+pub use rules::{Rule, read_clearances, read_rule};
 pub use shapes::{Circle, Path, circle_at, path_at, point_at, read_trail};
 pub use units::{unit_at, unit_for};
 pub use words::{

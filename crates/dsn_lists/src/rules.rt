@@ -5,7 +5,7 @@ ghost use Rattle.sexp_text.specs.Shows.{forest};
 ghost use Rattle.board_rules.specs.declared.design.Stated.{Stated};
 ghost use Rattle.dsn_lists.specs.Results.{Tells, Gives, each};
 ghost use Rattle.dsn_lists.specs.Words.{marked};
-ghost use Rattle.dsn_lists.specs.Rules.{kind_of, what_of, kinds_at, stating, stated_for, type_list, clearance_item, untyped_unless, clearance_list, width_list, rule_word, rule_item, rule_of};
+ghost use Rattle.dsn_lists.specs.Rules.{kind_of, what_of, kinds_at, stating, stated_for, type_list, clearance_item, untyped_unless, clearance_list, width_list, rule_word, rule_item, rule_of, clearances_item, clearances_of};
 
 use crate::faults::{DesignFault, ReadWhy};
 use crate::lengths::width_at;
@@ -258,4 +258,38 @@ pub fn read_rule(unit: Unit, rule: Rule, list: Cursor<'_>) -> Result<Rule, ReadW
         rest = after;
     }
     Ok(rule)
+}
+
+#[tactic(auto, unfolding(crate::specs::Rules::clearances_item))]
+fn read_clearances_list(
+    unit: Unit,
+    stated: StatedRows,
+    at: u32,
+    inside: Cursor<'_>,
+) -> Result<StatedRows, ReadWhy>
+    ensures { Gives (λ x. x) result (clearances_item unit stated at (forest inside.entry)) }
+{
+    let head = opening(inside);
+    if !is_word(head.text, b"clearance") {
+        return Ok(stated);
+    }
+    read_clearance(unit, stated, at, head.args)
+}
+
+/// Reads the clearances of a `rule` whose other lists, `width` too, are read over; behind what earlier rules stated.
+#[tactic(auto, unfolding(crate::specs::Results::each))]
+pub fn read_clearances(
+    unit: Unit,
+    stated: StatedRows,
+    list: Cursor<'_>,
+) -> Result<StatedRows, ReadWhy>
+    ensures { Gives (λ x. x) result (clearances_of unit stated (forest list.entry)) }
+{
+    let mut stated = stated;
+    let mut rest = list;
+    'lists: while let Some((at, inside, after)) = next_list(rest)? {
+        stated = read_clearances_list(unit, stated, at, inside)?;
+        rest = after;
+    }
+    Ok(stated)
 }

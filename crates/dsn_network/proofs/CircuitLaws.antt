@@ -1,85 +1,61 @@
 -- The circuits of classes are those that are read, and the fault of one is the one that is told.
-use Rattle.std.proofs.Common.{◌≡◌, ℕ, ◌≤◌, ◌<◌, Bool, true, false, cond, ltb, List, [], ◌∷◌, ◌++◌, codes, length, Ok, Err, refl, sym, ap, ◌∙◌, append_assoc, arith, inl, inr}
+use Rattle.std.proofs.Common.{◌≡◌, ℕ, ◌≤◌, ◌<◌, Bool, true, false, cond, ltb, List, [], ◌∷◌, ◌++◌, codes, length, Ok, Err, refl, sym, ap, ◌∙◌, arith, inl, inr}
 use Rattle.std.proofs.lemmas.Bool.{ltb-true, ltb-false, le-ltb, lt-ltb}
 use Rattle.std.proofs.lemmas.List.{append-nil, length-append}
-use Rattle.sexp_text.specs.Forest.{Forest, End, Word, Branch}
+use Rattle.sexp_text.specs.Forest.{Forest}
 use Rattle.dsn_lists.specs.declared.faults.DesignFault.{DesignFault}
 use Rattle.dsn_lists.specs.declared.faults.DesignKind.TheVariants as kind
 use Rattle.dsn_lists.specs.declared.marks.Mark.{Mark}
-use Rattle.dsn_lists.specs.Results.{Read, ◌>>=◌, each}
-use Rattle.dsn_lists.specs.Words.{same, head_of, name_list}
-use Rattle.dsn_lists.specs.Lists.{collect, Every, When, told, IsFirst}
+use Rattle.dsn_lists.specs.Results.{each}
+use Rattle.dsn_lists.specs.Words.{name_list}
+use Rattle.dsn_lists.specs.Lists.{collect, Every, told, IsFirst}
 use Rattle.dsn_lists.specs.ShortLists.{first_words, IsNameList, NameListFault}
-use Rattle.dsn_lists.proofs.Firsts.{made, ok_is, bind_ok, bind_err, first_found, first_again}
+use Rattle.dsn_lists.proofs.Firsts.{made, ok_is, bind_ok, bind_err}
+use Rattle.dsn_lists.proofs.KeyedLaws.{keyed_found, keyed_again, keyed_fault, keyed_fault_again}
 use Rattle.dsn_lists.proofs.ShortLaws.{names_found, names_again, names_fault, names_fault_again}
-use Rattle.dsn_network.specs.Networks.{use_item, more_vias, circuit_of}
+use Rattle.dsn_network.specs.Networks.{one_more_use, use_item, more_vias, circuit_of}
 use Rattle.dsn_network.specs.ClassLists.{IsUse, UseFault, uses_in, IsCircuit, CircuitFault}
 
--- ---- one list of a circuit
+-- ---- the lists of a circuit
 
--- the via lists that are there and those of a list, where it is one of `use_via` or not
-abbrev step : List (List Mark) → ℕ → Forest → Bool → Read (List (List Mark))
-step vs at args b = cond b (name_list at args >>= λ ms. made (vs ++ ms ∷ [])) (made vs)
+-- the names of one list
+abbrev uses_of : Forest → List (List Mark)
+uses_of f = first_words f ∷ []
 
-abbrev uses : Forest → Bool → List (List Mark)
-uses args b = cond b (first_words args ∷ []) []
-
-use_found : (vs : List (List Mark)) (at : ℕ) (args : Forest) (b : Bool) (ws : List (List Mark)) → step vs at args b ≡ Ok ws → When b (IsNameList args) × (ws ≡ vs ++ uses args b)
-use_found vs at args true ws e =
-    let ms = bind_ok (name_list at args) (λ ms. made (vs ++ ms ∷ [])) ws e in
-    let n = names_found at args ms.0 ms.1 in
+use_found : (vs : List (List Mark)) (at : ℕ) (f : Forest) (ws : List (List Mark)) → one_more_use vs at f ≡ Ok ws → IsNameList f × (ws ≡ vs ++ uses_of f)
+use_found vs at f ws e =
+    let ms = bind_ok (name_list at f) (λ ms. made (vs ++ ms ∷ [])) ws e in
+    let n = names_found at f ms.0 ms.1 in
     (n.0, sym (ok_is (vs ++ ms.0 ∷ []) ws ms.2) ∙ ap (λ (x : List Mark). vs ++ x ∷ []) n.1)
-use_found vs at args false ws e = (tt, sym (ok_is vs ws e) ∙ sym (append-nil vs))
 
-use_again : (vs : List (List Mark)) (at : ℕ) (args : Forest) (b : Bool) → When b (IsNameList args) → step vs at args b ≡ Ok (vs ++ uses args b)
-use_again vs at args true h = rw (names_again at args h) refl
-use_again vs at args false h = ap made (sym (append-nil vs))
+use_again : (vs : List (List Mark)) (at : ℕ) (f : Forest) → IsNameList f → one_more_use vs at f ≡ Ok (vs ++ uses_of f)
+use_again vs at f h = rw (names_again at f h) refl
 
-use_fault : (vs : List (List Mark)) (at : ℕ) (args : Forest) (b : Bool) (e : DesignFault) → step vs at args b ≡ Err e → (b ≡ true) × NameListFault at args e
-use_fault vs at args true e h =
-    elim (bind_err (name_list at args) (λ ms. made (vs ++ ms ∷ [])) e h) [
-      | inl here ↦ (refl, names_fault at args e here)
+use_fault : (vs : List (List Mark)) (at : ℕ) (f : Forest) (e : DesignFault) → one_more_use vs at f ≡ Err e → NameListFault at f e
+use_fault vs at f e h =
+    elim (bind_err (name_list at f) (λ ms. made (vs ++ ms ∷ [])) e h) [
+      | inl here ↦ names_fault at f e here
       | inr later ↦ absurd cc
     ]
-use_fault vs at args false e h = absurd cc
 
--- ---- all of its lists
+use_fault_again : (vs : List (List Mark)) (at : ℕ) (f : Forest) (e : DesignFault) → NameListFault at f e → one_more_use vs at f ≡ Err e
+use_fault_again vs at f e h = rw (names_fault_again at f e h) refl
 
 uses_found : (f : Forest) (vs ws : List (List Mark)) → each use_item vs f ≡ Ok ws → Every IsUse f × (ws ≡ vs ++ collect uses_in f)
-unfolding each use_item
-uses_found End vs ws e = (tt, sym (ok_is vs ws e) ∙ sym (append-nil vs))
-uses_found (Word at text rest) vs ws e = absurd cc
-uses_found (Branch at inside rest) vs ws e =
-    let y = bind_ok (use_item vs at inside) (λ y. each use_item y rest) ws e in
-    let one = use_found vs at (head_of inside).args (same (head_of inside).text (codes "use_via")) y.0 y.1 in
-    let more = uses_found rest y.0 ws y.2 in
-    ((one.0, more.0), more.1 ∙ ap (λ (x : List (List Mark)). x ++ collect uses_in rest) one.1 ∙ append_assoc vs (uses_in at inside) (collect uses_in rest))
+unfolding use_item
+uses_found f vs ws e = keyed_found (codes "use_via") one_more_use IsNameList uses_of use_found f vs ws e
 
 uses_again : (f : Forest) (vs : List (List Mark)) → Every IsUse f → each use_item vs f ≡ Ok (vs ++ collect uses_in f)
-unfolding each use_item
-uses_again End vs h = ap made (sym (append-nil vs))
-uses_again (Word at text rest) vs h = absurd h
-uses_again (Branch at inside rest) vs h =
-    let one = use_again vs at (head_of inside).args (same (head_of inside).text (codes "use_via")) h.0 in
-    rw one (uses_again rest (vs ++ uses_in at inside) h.1 ∙ ap made (append_assoc vs (uses_in at inside) (collect uses_in rest)))
-
-item_fault : (vs : List (List Mark)) (before inside : Forest) (at : ℕ) (e : DesignFault) → use_item vs at inside ≡ Err e → UseFault before at inside e
 unfolding use_item
-item_fault vs before inside at e h = use_fault vs at (head_of inside).args (same (head_of inside).text (codes "use_via")) e h
-
-item_fault_again : (vs : List (List Mark)) (before inside : Forest) (at : ℕ) (e : DesignFault) → UseFault before at inside e → use_item vs at inside ≡ Err e
-unfolding use_item
-item_fault_again vs before inside at e h = rw (h.0, names_fault_again at (head_of inside).args e h.1) refl
+uses_again f vs h = keyed_again (codes "use_via") one_more_use IsNameList uses_of use_again f vs h
 
 uses_fault : (vs : List (List Mark)) (f : Forest) (e : DesignFault) → each use_item vs f ≡ Err e → IsFirst (Every IsUse) UseFault f e
-uses_fault vs f e h =
-    first_found use_item vs (λ f. vs ++ collect uses_in f) (Every IsUse) UseFault (λ f ws k. uses_found f vs ws k)
-    (λ before inside at e stand k. item_fault (vs ++ collect uses_in before) before inside at e k) f e h
+unfolding use_item
+uses_fault vs f e h = keyed_fault (codes "use_via") one_more_use IsNameList uses_of NameListFault use_found use_fault vs f e h
 
 uses_fault_again : (vs : List (List Mark)) (f : Forest) (e : DesignFault) → IsFirst (Every IsUse) UseFault f e → each use_item vs f ≡ Err e
-uses_fault_again vs f e h =
-    first_again use_item vs (λ f. vs ++ collect uses_in f) (Every IsUse) UseFault (λ f k. uses_again f vs k)
-    (λ before inside at e stand k. item_fault_again (vs ++ collect uses_in before) before inside at e k) f e h
+unfolding use_item
+uses_fault_again vs f e h = keyed_fault_again (codes "use_via") one_more_use IsNameList uses_of NameListFault use_again use_fault_again vs f e h
 
 -- ---- a circuit
 

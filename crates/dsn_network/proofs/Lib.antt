@@ -17,3 +17,4 @@ pub mod PinLists
 pub mod PinPuts
 pub mod PinSplits
 pub mod NetClasses
+pub mod ClassPairLaws

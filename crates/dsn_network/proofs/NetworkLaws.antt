@@ -9,6 +9,7 @@ use Rattle.dsn_lists.specs.Lists.{collect, Every}
 use Rattle.dsn_lists.proofs.Firsts.{made, ok_is, bind_ok}
 use Rattle.dsn_lists.proofs.Fresh.{AreFreshBehind, fresh_none, fresh_join, fresh_front, fresh_back}
 use Rattle.dsn_network.specs.declared.classes.Class.{Class}
+use Rattle.dsn_network.specs.declared.pairs.ClassPairs.{ClassPairs}
 use Rattle.dsn_library.specs.declared.library.Library.{Library}
 use Rattle.dsn_network.specs.declared.network.Network.{Network}
 use Rattle.dsn_network.specs.declared.network.NetworkWord.{NetworkWord}
@@ -16,10 +17,13 @@ use Rattle.dsn_network.specs.declared.network.NetworkWord.TheVariants as words
 use Rattle.dsn_placement.specs.declared.placement.Placement.{Placement}
 use Rattle.dsn_network.specs.Networks.{network_word, network_item}
 use Rattle.dsn_network.specs.NamedPins.{with_nets}
-use Rattle.dsn_network.specs.NetworkParts.{IsOfNetwork, IsNetworkList, nets_in, net_references_in, class_of_list, classes_in, AreClasses}
+use Rattle.dsn_network.specs.NetworkParts.{IsOfNetwork, IsNetworkList, nets_in, net_references_in, class_of_list, classes_in, pairs_of_list, pairs_in, AreEach}
+use Rattle.dsn_network.specs.ClassLists.{IsClass}
+use Rattle.dsn_network.specs.ClassPairLists.{IsPairs}
 use Rattle.dsn_network.proofs.PinPuts.{put, AreFree, free_join, free_front, free_back}
-use Rattle.dsn_network.proofs.ClassReadings.{class_is}
-use Rattle.dsn_network.proofs.NetworkListLaws.{nets_join, one_each, adding, adding_more, adding_none, value_of_list, next, IsGood, still_few, one_found, one_again}
+use Rattle.dsn_network.proofs.ClassReadings.{class_value, class_is}
+use Rattle.dsn_network.proofs.ClassPairLaws.{pairs_value, pairs_is}
+use Rattle.dsn_network.proofs.NetworkListLaws.{nets_join, one_each, adding, adding_more, adding_none, value_of_list, pairs_of_word, next, IsGood, still_few, one_found, one_again}
 
 -- ---- all lists
 
@@ -27,13 +31,18 @@ use Rattle.dsn_network.proofs.NetworkListLaws.{nets_join, one_each, adding, addi
 abbrev pub values_in : LengthUnit → ℕ → Forest → List Class
 values_in u at inside = value_of_list u (network_word (head_of inside).text) (head_of inside).args
 
+-- what is read of a list between classes
+abbrev pub between_in : LengthUnit → ℕ → Forest → List ClassPairs
+between_in u at inside = pairs_of_word u (network_word (head_of inside).text) (head_of inside).args
+
 -- the network behind all lists
 abbrev pub all : LengthUnit → Placement → Library → Network → Forest → Network
-all u p l n f = adding p l n (collect nets_in f) (collect net_references_in f) (collect (values_in u) f)
+all u p l n f = adding p l n (collect nets_in f) (collect net_references_in f) (collect (values_in u) f) (collect (between_in u) f)
 
 more : (u : LengthUnit) (p : Placement) (l : Library) (n : Network) (at : ℕ) (inside rest : Forest) → all u p l (next u p l n (network_word (head_of inside).text) (head_of inside).args) rest ≡ all u p l n (Branch at inside rest)
 more u p l n at inside rest =
     adding_more p l n (nets_in at inside) (collect nets_in rest) (net_references_in at inside) (collect net_references_in rest) (values_in u at inside) (collect (values_in u) rest)
+    (between_in u at inside) (collect (between_in u) rest)
     (one_each (head_of inside).args (network_word (head_of inside).text))
 
 -- as many nets as lists of references
@@ -137,35 +146,58 @@ all_again u p l (Branch at inside rest) n g =
     } in
     rw first (all_again u p l rest (next u p l n (network_word (head_of inside).text) (head_of inside).args) others ∙ ap made (more u p l n at inside rest))
 
--- ---- the classes
+-- ---- the classes, and the lists between them
 
-classes_join : (u : LengthUnit) (fs gs : List Forest) (cs ds : List Class) → AreClasses u fs cs → AreClasses u gs ds → AreClasses u (fs ++ gs) (cs ++ ds)
-classes_join u [] gs [] ds p q = q
-classes_join u [] gs (c ∷ cs) ds p q = absurd cc
-classes_join u (f ∷ fs) gs [] ds p q = absurd p
-classes_join u (f ∷ fs) gs (c ∷ cs) ds p q = (p.0, classes_join u fs gs cs ds p.1 q)
+each_join : {A : Type 0} (Is : Forest → A → Type 0) (fs gs : List Forest) (xs ys : List A) → AreEach Is fs xs → AreEach Is gs ys → AreEach Is (fs ++ gs) (xs ++ ys)
+each_join Is [] gs [] ys p q = q
+each_join Is [] gs (x ∷ xs) ys p q = absurd cc
+each_join Is (f ∷ fs) gs [] ys p q = absurd p
+each_join Is (f ∷ fs) gs (x ∷ xs) ys p q = (p.0, each_join Is fs gs xs ys p.1 q)
 
-one_class : (u : LengthUnit) (f : Forest) (k : NetworkWord) → IsOfNetwork u k f → AreClasses u (class_of_list k f) (value_of_list u k f)
-one_class u f words.Class h = subst (λ (cs : List Class). AreClasses u (f ∷ []) cs) (sym (class_is u f h.0 h.1)) (h.1, refl)
+-- where a thing is what is read of its list, two lists of things of the same lists are one
+each_same : {A : Type 0} (Is : Forest → A → Type 0) (read : Forest → List A) → ((f : Forest) (x : A) → Is f x → read f ≡ x ∷ []) → (fs : List Forest) (xs ys : List A) → AreEach Is fs xs → AreEach Is fs ys → xs ≡ ys
+each_same Is read is [] xs ys p q = p ∙ sym q
+each_same Is read is (f ∷ fs) [] ys p q = absurd p
+each_same Is read is (f ∷ fs) (x ∷ xs) [] p q = absurd q
+each_same {A} Is read is (f ∷ fs) (x ∷ xs) (y ∷ ys) p q =
+    let heads : x ∷ [] ≡ y ∷ [] = sym (is f x p.0) ∙ is f y q.0 in
+    let tails = each_same Is read is fs xs ys p.1 q.1 in
+    cc
+
+one_class : (u : LengthUnit) (f : Forest) (k : NetworkWord) → IsOfNetwork u k f → AreEach (IsClass u) (class_of_list k f) (value_of_list u k f)
+one_class u f words.Class h = subst (λ (cs : List Class). AreEach (IsClass u) (f ∷ []) cs) (sym (class_is u f h.0 h.1)) (h.1, refl)
 one_class u f words.Net h = refl
+one_class u f words.Pairs h = refl
 one_class u f words.Unit h = refl
 one_class u f words.Resolution h = refl
 one_class u f words.Other h = refl
 
+one_between : (u : LengthUnit) (f : Forest) (k : NetworkWord) → IsOfNetwork u k f → AreEach (IsPairs u) (pairs_of_list k f) (pairs_of_word u k f)
+one_between u f words.Pairs h = (subst (IsPairs u f) (sym (pairs_is u f h.0 h.1)) h.1, refl)
+one_between u f words.Net h = refl
+one_between u f words.Class h = refl
+one_between u f words.Unit h = refl
+one_between u f words.Resolution h = refl
+one_between u f words.Other h = refl
+
 -- what is read are the classes
-pub classes_are : (u : LengthUnit) (f : Forest) → Every (IsNetworkList u) f → AreClasses u (collect classes_in f) (collect (values_in u) f)
+pub classes_are : (u : LengthUnit) (f : Forest) → Every (IsNetworkList u) f → AreEach (IsClass u) (collect classes_in f) (collect (values_in u) f)
 classes_are u End h = refl
 classes_are u (Word at text rest) h = absurd h
 classes_are u (Branch at inside rest) h =
-    classes_join u (classes_in at inside) (collect classes_in rest) (values_in u at inside) (collect (values_in u) rest)
+    each_join (IsClass u) (classes_in at inside) (collect classes_in rest) (values_in u at inside) (collect (values_in u) rest)
     (one_class u (head_of inside).args (network_word (head_of inside).text) h.0) (classes_are u rest h.1)
 
--- two lists of classes of the same lists are one
-pub same_classes : (u : LengthUnit) (fs : List Forest) (cs ds : List Class) → AreClasses u fs cs → AreClasses u fs ds → cs ≡ ds
-same_classes u [] cs ds p q = p ∙ sym q
-same_classes u (f ∷ fs) [] ds p q = absurd p
-same_classes u (f ∷ fs) (c ∷ cs) [] p q = absurd q
-same_classes u (f ∷ fs) (c ∷ cs) (d ∷ ds) p q =
-    let heads : c ∷ [] ≡ d ∷ [] = sym (class_is u f c p.0) ∙ class_is u f d q.0 in
-    let tails = same_classes u fs cs ds p.1 q.1 in
-    cc
+-- what is read are the lists between classes
+pub between_are : (u : LengthUnit) (f : Forest) → Every (IsNetworkList u) f → AreEach (IsPairs u) (collect pairs_in f) (collect (between_in u) f)
+between_are u End h = refl
+between_are u (Word at text rest) h = absurd h
+between_are u (Branch at inside rest) h =
+    each_join (IsPairs u) (pairs_in at inside) (collect pairs_in rest) (between_in u at inside) (collect (between_in u) rest)
+    (one_between u (head_of inside).args (network_word (head_of inside).text) h.0) (between_are u rest h.1)
+
+pub same_classes : (u : LengthUnit) (fs : List Forest) (cs ds : List Class) → AreEach (IsClass u) fs cs → AreEach (IsClass u) fs ds → cs ≡ ds
+same_classes u fs cs ds p q = each_same (IsClass u) (class_value u) (λ f c h. class_is u f c h) fs cs ds p q
+
+pub same_between : (u : LengthUnit) (fs : List Forest) (ps qs : List ClassPairs) → AreEach (IsPairs u) fs ps → AreEach (IsPairs u) fs qs → ps ≡ qs
+same_between u fs ps qs p q = each_same (IsPairs u) (λ f. pairs_value u f ∷ []) (λ f x h. ap (λ (y : ClassPairs). y ∷ []) (pairs_is u f x h)) fs ps qs p q

@@ -14,18 +14,21 @@ use Rattle.dsn_lists.proofs.Firsts.{made, first_found, first_again}
 use Rattle.dsn_lists.proofs.Fresh.{AreFreshBehind}
 use Rattle.dsn_lists.proofs.UnitLaws.{governs}
 use Rattle.dsn_network.specs.declared.classes.Class.{Class}
+use Rattle.dsn_network.specs.declared.pairs.ClassPairs.{ClassPairs}
 use Rattle.dsn_library.specs.declared.library.Library.{Library}
 use Rattle.dsn_network.specs.declared.network.Network.{Network}
 use Rattle.dsn_placement.specs.declared.placement.Placement.{Placement}
 use Rattle.dsn_network.specs.Networks.{network_word, network_item, no_network, network_at}
 use Rattle.dsn_network.specs.NamedPins.{IsInNet, with_nets, ArePins}
-use Rattle.dsn_network.specs.NetworkParts.{nets_in, net_references_in, references, classes_in, AreClasses}
+use Rattle.dsn_network.specs.NetworkParts.{nets_in, net_references_in, references, classes_in, pairs_in, AreEach}
+use Rattle.dsn_network.specs.ClassLists.{IsClass}
+use Rattle.dsn_network.specs.ClassPairLists.{IsPairs}
 use Rattle.dsn_network.specs.NetworkMeaning.{IsSection, IsNetwork, Stand, NetworkListFault, IsFirstFault}
 use Rattle.dsn_network.proofs.PinPuts.{put, put_back, in_cases, in_none, free_has}
 use Rattle.dsn_network.proofs.PinLists.{pins_found, pins_free, pins_are, no_net}
 use Rattle.dsn_network.proofs.NetBefore.{IsBehind, all_of}
 use Rattle.dsn_network.proofs.NetworkListLaws.{one_fault, one_fault_again}
-use Rattle.dsn_network.proofs.NetworkLaws.{values_in, all, all_each, AreGood, all_found, all_again, classes_are, same_classes}
+use Rattle.dsn_network.proofs.NetworkLaws.{values_in, between_in, all, all_each, AreGood, all_found, all_again, classes_are, between_are, same_classes, same_between}
 
 -- ---- the section
 
@@ -34,14 +37,16 @@ section_found u p l f n e =
     let g = all_found u p l f (no_network p.quota) n (omega arith) e in
     let nets : n.nets ≡ collect nets_in f = ap (λ (x : Network). x.nets) g.1 in
     let pins : n.pins ≡ put p l [] (references f) = ap (λ (x : Network). x.pins) g.1 in
-    let classes : n.classes ≡ collect (values_in u) f = ap (λ (x : Network). x.classes) g.1 in (
+    let classes : n.classes ≡ collect (values_in u) f = ap (λ (x : Network). x.classes) g.1 in
+    let between : n.pairs ≡ collect (between_in u) f = ap (λ (x : Network). x.pairs) g.1 in (
       record {
         formed = g.0.formed;
         nets = nets;
         fresh = subst (λ (xs : List (List ℕ)). AreFreshBehind [] xs) (sym nets) g.0.fresh;
         few = subst (λ (xs : List (List ℕ)). length xs ≤ 100000) (sym nets) g.0.few;
         pins = subst (λ (xs : List ((ℕ × ℕ) × ℕ)). ArePins p l (references f) xs) (sym pins) (pins_found p l (references f) g.0.free);
-        classes = subst (λ (cs : List Class). AreClasses u (collect classes_in f) cs) (sym classes) (classes_are u f g.0.formed);
+        classes = subst (λ (cs : List Class). AreEach (IsClass u) (collect classes_in f) cs) (sym classes) (classes_are u f g.0.formed);
+        pairs = subst (λ (ps : List ClassPairs). AreEach (IsPairs u) (collect pairs_in f) ps) (sym between) (between_are u f g.0.formed);
         quota = ap (λ (x : Network). x.quota) g.1;
       },
       g.1,
@@ -58,8 +63,9 @@ good_of_section u p l f n h = record {
 section_is : (u : LengthUnit) (p : Placement) (l : Library) (f : Forest) (n : Network) → IsSection u p l f n → all u p l (no_network p.quota) f ≡ n
 section_is u p l f n h =
     let classes = same_classes u (collect classes_in f) (collect (values_in u) f) n.classes (classes_are u f h.formed) h.classes in
+    let between = same_between u (collect pairs_in f) (collect (between_in u) f) n.pairs (between_are u f h.formed) h.pairs in
     let pins = pins_are p l (references f) n.pins h.pins in
-    λ i. record { nets = sym h.nets i; pins = pins i; classes = classes i; quota = sym h.quota i }
+    λ i. record { nets = sym h.nets i; pins = pins i; classes = classes i; pairs = between i; quota = sym h.quota i }
 
 section_all : (u : LengthUnit) (p : Placement) (l : Library) (f : Forest) (n : Network) → IsSection u p l f n → each (network_item u p l) (no_network p.quota) f ≡ Ok (all u p l (no_network p.quota) f)
 section_all u p l f n h = all_again u p l f (no_network p.quota) (good_of_section u p l f n h)

@@ -1,13 +1,14 @@
 -- What a class of a network is, and what is wrong with a list that is none.
 -- Models: the class, circuit and use_via descriptors of the SPECCTRA reference.
-use Rattle.std.specs.Prelude.{◌≡◌, ℕ, ◌<◌, ◌⊎◌, true, List, [], ◌∷◌, codes, length, Option, if◌then◌else◌}
+use Rattle.std.specs.Prelude.{◌≡◌, ℕ, ◌<◌, ◌⊎◌, List, [], ◌∷◌, codes, length, Option}
 use Rattle.sexp_text.specs.Forest.{Forest}
 use Rattle.sexp_text.specs.declared.units.Unit.{Unit as LengthUnit}
 use Rattle.dsn_lists.specs.declared.faults.DesignFault.{DesignFault}
 use Rattle.dsn_lists.specs.declared.faults.DesignKind.TheVariants as kind
 use Rattle.dsn_lists.specs.declared.marks.Mark.{Mark}
-use Rattle.dsn_lists.specs.Words.{same, head_of}
-use Rattle.dsn_lists.specs.Lists.{collect, Every, When, told, IsFirst}
+use Rattle.dsn_lists.specs.Words.{head_of}
+use Rattle.dsn_lists.specs.Keyed.{HoldsWith, FaultWith, given_with}
+use Rattle.dsn_lists.specs.Lists.{collect, Every, told, IsFirst}
 use Rattle.dsn_lists.specs.ShortLists.{HasWord, NoWordOr, first_words, behind_words, IsNameList, NameListFault}
 use Rattle.dsn_lists.specs.Statements.{Claim, IsRule, RuleFault, widths_in, claims_in, Says}
 use Rattle.dsn_network.specs.declared.classes.Class.{Class}
@@ -19,15 +20,15 @@ use Rattle.dsn_network.specs.Networks.{class_word}
 
 -- a `use_via` list names one padstack or more; other lists are read over
 abbrev pub IsUse : ℕ → Forest → Type 0
-IsUse at inside = When (same (head_of inside).text (codes "use_via")) (IsNameList (head_of inside).args)
+IsUse = HoldsWith (codes "use_via") IsNameList
 
 -- the fault of a `use_via` list
 abbrev pub UseFault : Forest → ℕ → Forest → DesignFault → Type 0
-UseFault before at inside e = (same (head_of inside).text (codes "use_via") ≡ true) × NameListFault at (head_of inside).args e
+UseFault = FaultWith (codes "use_via") NameListFault
 
 -- the padstacks that a `use_via` list names
 abbrev pub uses_in : ℕ → Forest → List (List Mark)
-uses_in at inside = if same (head_of inside).text (codes "use_via") then first_words (head_of inside).args ∷ [] else []
+uses_in = given_with (codes "use_via") (λ f. first_words f ∷ [])
 
 -- a circuit: lists of which one or more say what vias to use
 abbrev pub IsCircuit : Forest → Type 0

@@ -8,3 +8,5 @@ pub mod Networks
 pub mod PinOf
 pub mod References
 pub mod Limits
+pub mod ClassPairings
+pub mod ClassPairLists

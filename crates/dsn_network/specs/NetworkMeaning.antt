@@ -22,22 +22,25 @@ use Rattle.dsn_network.specs.Networks.{network_word}
 use Rattle.dsn_library.specs.declared.library.Library.{Library}
 use Rattle.dsn_placement.specs.declared.placement.Placement.{Placement}
 use Rattle.dsn_network.specs.NamedPins.{ArePins}
-use Rattle.dsn_network.specs.NetworkParts.{IsNetworkList, nets_in, references, classes_in, AreClasses}
+use Rattle.dsn_network.specs.NetworkParts.{IsNetworkList, nets_in, references, classes_in, pairs_in, AreEach}
 use Rattle.dsn_network.specs.NetLists.{NetFault}
-use Rattle.dsn_network.specs.ClassLists.{ClassFault}
+use Rattle.dsn_network.specs.ClassLists.{IsClass, ClassFault}
+use Rattle.dsn_network.specs.ClassPairLists.{IsPairs, PairsFault}
 
 -- ---- the section
 
 -- Lists of the section, with lengths in this unit, and what they stand for. Each is as its keyword wants it. The nets are
 -- those named, in order, each once and at most 100,000. The pins are those that the references name, each in one net. The
--- classes are those that stand there, in order. The quota for items and points is the placement's.
+-- classes, and the lists between classes, are those that stand there, in order. The quota for items and points is the
+-- placement's.
 pub record IsSection (u : LengthUnit) (p : Placement) (l : Library) (f : Forest) (n : Network) : Type 0 where
   pub formed : Every (IsNetworkList u) f
   pub nets : n.nets ≡ collect nets_in f
   pub fresh : AreFresh n.nets
   pub few : length n.nets ≤ net_limit
   pub pins : ArePins p l (references f) n.pins
-  pub classes : AreClasses u (collect classes_in f) n.classes
+  pub classes : AreEach (IsClass u) (collect classes_in f) n.classes
+  pub pairs : AreEach (IsPairs u) (collect pairs_in f) n.pairs
   pub quota : n.quota ≡ p.quota
 
 -- a section in a design of this unit, which a `unit` list in the section replaces
@@ -55,6 +58,7 @@ Stand u p l f = (n : Network) × IsSection u p l f n
 abbrev pub OfNetworkFault : LengthUnit → Placement → Library → List (List ℕ) → List (List ℕ × ℕ) → ℕ → Heading → NetworkWord → DesignFault → Type 0
 OfNetworkFault u p l names earlier at h words.Net e = NetFault p l names earlier at h.args e
 OfNetworkFault u p l names earlier at h words.Class e = ClassFault u at h.args e
+OfNetworkFault u p l names earlier at h words.Pairs e = PairsFault u at h.args e
 OfNetworkFault u p l names earlier at h words.Unit e = UnitListFault at h.args e
 OfNetworkFault u p l names earlier at h words.Resolution e = e ≡ told kind.Unit h.at
 OfNetworkFault u p l names earlier at h words.Other e = ⊥

@@ -7,6 +7,7 @@ use Rattle.dsn_lists.specs.Words.{head_of}
 use Rattle.dsn_lists.specs.Lists.{collect}
 use Rattle.dsn_lists.specs.Measures.{IsUnitList}
 use Rattle.dsn_network.specs.declared.classes.Class.{Class}
+use Rattle.dsn_network.specs.declared.pairs.ClassPairs.{ClassPairs}
 use Rattle.dsn_network.specs.declared.network.NetworkWord.{NetworkWord}
 use Rattle.dsn_network.specs.declared.network.NetworkWord.TheVariants as words
 use Rattle.dsn_network.specs.Networks.{network_word}
@@ -14,11 +15,13 @@ use Rattle.dsn_lists.specs.NewNames.{first_name}
 use Rattle.dsn_network.specs.NamedPins.{references_of, with_nets}
 use Rattle.dsn_network.specs.NetLists.{IsNet}
 use Rattle.dsn_network.specs.ClassLists.{IsClass}
+use Rattle.dsn_network.specs.ClassPairLists.{IsPairs}
 
 -- what a list of the section has to be, by its keyword
 abbrev pub IsOfNetwork : LengthUnit → NetworkWord → Forest → Type 0
 IsOfNetwork u words.Net f = IsNet f
 IsOfNetwork u words.Class f = (c : Class) × IsClass u f c
+IsOfNetwork u words.Pairs f = (p : ClassPairs) × IsPairs u f p
 IsOfNetwork u words.Unit f = IsUnitList f
 IsOfNetwork u words.Resolution f = ⊥
 IsOfNetwork u words.Other f = Unit {0}
@@ -58,8 +61,17 @@ class_of_list _ f = []
 abbrev pub classes_in : ℕ → Forest → List Forest
 classes_in at inside = class_of_list (network_word (head_of inside).text) (head_of inside).args
 
--- the classes are those of these lists, one by one
-abbrev pub AreClasses : LengthUnit → List Forest → List Class → Type 0
-AreClasses u [] cs = cs ≡ []
-AreClasses u (f ∷ fs) [] = ⊥
-AreClasses u (f ∷ fs) (c ∷ cs) = IsClass u f c × AreClasses u fs cs
+-- what stands behind the keyword, of a list between classes
+abbrev pub pairs_of_list : NetworkWord → Forest → List Forest
+pairs_of_list words.Pairs f = f ∷ []
+pairs_of_list _ f = []
+
+-- what stands behind the keyword of a list between classes
+abbrev pub pairs_in : ℕ → Forest → List Forest
+pairs_in at inside = pairs_of_list (network_word (head_of inside).text) (head_of inside).args
+
+-- each of these lists is the thing in its place, and there are no more things
+abbrev pub AreEach : {A : Type 0} → (Forest → A → Type 0) → List Forest → List A → Type 0
+AreEach Is [] xs = xs ≡ []
+AreEach Is (f ∷ fs) [] = ⊥
+AreEach Is (f ∷ fs) (x ∷ xs) = Is f x × AreEach Is fs xs

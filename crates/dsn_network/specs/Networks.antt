@@ -1,6 +1,6 @@
 -- What the lists of the network section state.
 -- Models: the network, net, pins, class, circuit and use_via descriptors of the SPECCTRA reference.
--- Left out: class_class and all other lists.
+-- Left out: all other lists, but for those of ClassPairings.
 use Rattle.std.specs.Prelude.{ℕ, suc, nat_lt, ◌==◌, List, [], ◌∷◌, ◌++◌, set, get_or, codes, length, Option, Some, None, Ok, if◌then◌else◌}
 use Rattle.row_lists.specs.Limits.{net_limit}
 use Rattle.sexp_text.specs.Forest.{Forest, End, Word, Branch}
@@ -11,6 +11,7 @@ use Rattle.dsn_lists.specs.declared.pcb.Section.TheVariants as sections
 use Rattle.dsn_lists.specs.Results.{Read, ◌>>=◌, wrong, each}
 use Rattle.dsn_lists.specs.Names.{place_of}
 use Rattle.dsn_lists.specs.Words.{Heading, same, mark, head_of, word_of, spare, names, name_list}
+use Rattle.dsn_lists.specs.Keyed.{keyed}
 use Rattle.dsn_lists.specs.Units.{unit_list, governing}
 use Rattle.dsn_lists.specs.Rules.{no_rule, rule_of}
 use Rattle.dsn_lists.specs.Pcbs.{Spot, design_of, section_in}
@@ -25,6 +26,7 @@ use Rattle.dsn_network.specs.declared.network.NetworkWord.{NetworkWord}
 use Rattle.dsn_network.specs.declared.network.NetworkWord.TheVariants as words
 use Rattle.dsn_placement.specs.declared.placement.Placement.{Placement}
 use Rattle.dsn_network.specs.References.{net_at, pin_of}
+use Rattle.dsn_network.specs.ClassPairings.{pairs_of}
 
 -- ---- nets
 
@@ -62,8 +64,11 @@ with_net p l n at f = do
 -- ---- classes
 
 -- the lists of vias and one more
+abbrev pub one_more_use : List (List Mark) → ℕ → Forest → Read (List (List Mark))
+one_more_use vs at f = name_list at f >>= λ ms. Ok (vs ++ ms ∷ [])
+
 unfoldable pub use_item : List (List Mark) → ℕ → Forest → Read (List (List Mark))
-use_item vs at inside = if same (head_of inside).text (codes "use_via") then (name_list at (head_of inside).args >>= λ ms. Ok (vs ++ ms ∷ [])) else Ok vs
+use_item vs at inside = keyed (codes "use_via") one_more_use vs at inside
 
 -- a circuit has a list of vias, so there are more than before
 unfoldable pub more_vias : ℕ → ℕ → List (List Mark) → Read (List (List Mark))
@@ -127,6 +132,7 @@ unfoldable pub network_word : List ℕ → NetworkWord
 network_word text =
     if same text (codes "net") then words.Net else
     if same text (codes "class") then words.Class else
+    if same text (codes "class_class") then words.Pairs else
     if same text (codes "unit") then words.Unit else
     if same text (codes "resolution") then words.Resolution else words.Other
 
@@ -134,9 +140,14 @@ network_word text =
 abbrev pub with_class : LengthUnit → Network → ℕ → Forest → Read Network
 with_class u n at f = class_of u at f >>= λ c. Ok (record n { classes = n.classes ++ c ∷ [] })
 
+-- the network with what one more list states between classes
+abbrev pub with_pairs : LengthUnit → Network → ℕ → Forest → Read Network
+with_pairs u n at f = pairs_of u at f >>= λ p. Ok (record n { pairs = n.pairs ++ p ∷ [] })
+
 abbrev pub network_list : LengthUnit → Placement → Library → Network → ℕ → Heading → NetworkWord → Read Network
 network_list u p l n at h words.Net = with_net p l n at h.args
 network_list u p l n at h words.Class = with_class u n at h.args
+network_list u p l n at h words.Pairs = with_pairs u n at h.args
 network_list u p l n at h words.Unit = unit_list at h.args >>= λ _. Ok n
 network_list u p l n at h words.Resolution = wrong kind.Unit h.at
 network_list u p l n at h words.Other = Ok n
@@ -146,7 +157,7 @@ network_item u p l n at inside = network_list u p l n at (head_of inside) (netwo
 
 -- no net, and this quota for items and points
 abbrev pub no_network : Quota → Network
-no_network quota = record { nets = []; pins = []; classes = []; quota = quota }
+no_network quota = record { nets = []; pins = []; classes = []; pairs = []; quota = quota }
 
 -- the section at its place, where this unit governs the design
 unfoldable pub network_at : LengthUnit → Placement → Library → Spot → Read Network

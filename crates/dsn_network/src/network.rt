@@ -8,9 +8,10 @@ ghost use Rattle.dsn_lists.specs.Words.{marked};
 ghost use Rattle.dsn_lists.specs.Pcbs.{spotted};
 ghost use Rattle.dsn_network.specs.Limits.{IsFitNetwork};
 ghost use Rattle.dsn_network.specs.NetworkMeaning.{HasNetwork, NetworkFault, WhyNot};
-ghost use Rattle.dsn_network.specs.Networks.{reference_of, pins_of, net_item, with_net, with_class, network_word, network_item, no_network, network_at, network_of};
+ghost use Rattle.dsn_network.specs.Networks.{reference_of, pins_of, net_item, with_net, with_class, with_pairs, network_word, network_item, no_network, network_at, network_of};
 
 use crate::classes::{Class, class_at};
+use crate::pairs::{ClassPairs, pairs_at};
 use crate::pins::PinNets;
 use crate::references::PinNames;
 use dsn_library::Library;
@@ -27,6 +28,9 @@ use std::alloc::Global;
 /// Classes in the order of the text.
 pub type Classes = Row<Class>;
 
+/// What lists between classes state, in the order of the text.
+pub type PairLists = Row<ClassPairs>;
+
 /// The nets of a design and their classes.
 #[derive(Debug, Drop)]
 pub struct Network {
@@ -35,6 +39,8 @@ pub struct Network {
     /// The nets of the pins that are named.
     pub pins: PinNets,
     pub classes: Classes,
+    /// What is stated between classes, a row for each list, so that it takes room in proportion to the text.
+    pub pairs: PairLists,
     /// How many items and points may come behind those of the placement.
     pub quota: Quota,
 }
@@ -44,6 +50,7 @@ pub struct Network {
 enum NetworkWord {
     Net,
     Class,
+    Pairs,
     Unit,
     Resolution,
     Other,
@@ -163,6 +170,20 @@ fn add_class(
     Ok(())
 }
 
+fn add_pairs(
+    alloc: Global,
+    unit: Unit,
+    network: &mut Network,
+    at: u32,
+    args: Cursor<'_>,
+) -> Result<(), ReadWhy>
+    ensures { Gives (λ _. network.new) result (with_pairs unit network.old at (forest args.entry)) }
+{
+    let pairs = pairs_at(alloc, unit, at, args)?;
+    network.pairs.push(pairs)?;
+    Ok(())
+}
+
 #[tactic(auto, unfolding(crate::specs::Networks::network_word))]
 fn network_word(text: &[u8]) -> NetworkWord
     ensures { result ≡ network_word text.now }
@@ -172,6 +193,9 @@ fn network_word(text: &[u8]) -> NetworkWord
     }
     if is_word(text, b"class") {
         return NetworkWord::Class;
+    }
+    if is_word(text, b"class_class") {
+        return NetworkWord::Pairs;
     }
     if is_word(text, b"unit") {
         return NetworkWord::Unit;
@@ -197,6 +221,7 @@ fn read_list(
     match network_word(head.text) {
         NetworkWord::Net => add_net(names, network, at, head.args),
         NetworkWord::Class => add_class(alloc, unit, network, at, head.args),
+        NetworkWord::Pairs => add_pairs(alloc, unit, network, at, head.args),
         NetworkWord::Unit => {
             unit_at(at, head.args)?;
             Ok(())
@@ -240,6 +265,7 @@ fn network_at(
         nets: NameSet::new(alloc),
         pins: PinNets::new(alloc),
         classes: Row::new(alloc),
+        pairs: Row::new(alloc),
         quota: placement.quota,
     };
     read_lists(alloc, unit, &names, &mut network, place.args)?;

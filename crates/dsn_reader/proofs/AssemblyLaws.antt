@@ -1,11 +1,12 @@
 -- The classes and nets of a design are those that are assembled.
-use Rattle.std.proofs.Common.{◌≡◌, ℕ, zero, suc, ◌-◌, List, [], ◌∷◌, ◌++◌, map, length, Option, Some, None, option_to_list, refl, sym, ap, ◌∙◌, append_assoc, arith}
+use Rattle.std.proofs.Common.{◌≡◌, ℕ, zero, suc, ◌-◌, List, [], ◌∷◌, ◌++◌, map, length, Option, Some, None, refl, sym, ap, ◌∙◌, append_assoc, arith}
 use Rattle.std.specs.Prelude.{slice_get, Result, Ok, Err, IfOk}
 use Rattle.std.specs.Option.{option_map}
 use Rattle.std.proofs.lemmas.List.{append-nil}
 use Rattle.board_items.specs.declared.items.Item.{Item}
 use Rattle.board_rules.specs.declared.design.ClassRow.{ClassRow}
 use Rattle.board_rules.specs.declared.design.NetRow.{NetRow}
+use Rattle.board_rules.specs.declared.design.PairRow.{PairRow}
 use Rattle.board_rules.specs.declared.design.Parts.{Parts}
 use Rattle.dsn_lists.specs.declared.marks.Mark.{Mark}
 use Rattle.dsn_lists.specs.declared.rules.Rule.{Rule}
@@ -15,22 +16,12 @@ use Rattle.dsn_structure.specs.declared.structure.Structure.{Structure}
 use Rattle.dsn_network.specs.declared.classes.Class.{Class}
 use Rattle.dsn_placement.specs.declared.placement.PlacedPart.{PlacedPart}
 use Rattle.dsn_reader.specs.declared.reader.Laid.{Laid}
-use Rattle.dsn_reader.specs.Assembly.{with_number, numbers_of, held_vias, last_vias, class_row, class_rows, all_classes, net_row, row_at, net_rows, item_of, with_placed, Gathered, rows_of, with_rows, assembled}
-use Rattle.dsn_reader.specs.Rows.{numbers_by_place, row_of, row_of_class, rows_of_classes, rows_of_nets, laid_out}
+use Rattle.dsn_reader.specs.Assembly.{held_vias, last_vias, class_row, class_rows, all_classes, net_row, row_at, net_rows, item_of, with_placed, Gathered, rows_of, with_rows, assembled}
+use Rattle.dsn_reader.specs.Rows.{numbers_by_place, row_of, row_of_class, rows_of_classes, rows_of_nets, rows_of_pairs, laid_out}
+use Rattle.dsn_reader.proofs.NumberingLaws.{numbers_are}
+use Rattle.dsn_reader.proofs.PairRowLaws.{pairs_are}
 
 -- ---- classes
-
-with_is : (ids : List ℕ) (o : Option ℕ) → with_number ids o ≡ ids ++ option_to_list o
-with_is ids None = sym (append-nil ids)
-with_is ids (Some n) = refl
-
-numbers_are : (names : List (List ℕ)) (ids : List ℕ) (ms : List Mark) → numbers_of names ids ms ≡ ids ++ numbers_by_place names ms
-unfolding numbers_of
-numbers_are names ids [] = sym (append-nil ids)
-numbers_are names ids (m ∷ ms) =
-    numbers_are names (with_number ids (place_of names m.name)) ms
-    ∙ ap (λ (xs : List ℕ). xs ++ numbers_by_place names ms) (with_is ids (place_of names m.name))
-    ∙ append_assoc ids (option_to_list (place_of names m.name)) (numbers_by_place names ms)
 
 last_got : {A : Type 0} (o : Option A) (x : A) (xs : List A) → slice_get (x ∷ xs) (length xs) ≡ last_of o (map Some (x ∷ xs))
 last_got o x [] = refl
@@ -49,7 +40,7 @@ last_is names (ms ∷ lists) =
   where
     held_is : (o : Option (List Mark)) → held_vias names o ≡ option_map (numbers_by_place names) o
     held_is None = refl
-    held_is (Some xs) = ap (λ (ids : List ℕ). Some ids) (numbers_are names [] xs)
+    held_is (Some xs) = ap (λ (ids : List ℕ). Some ids) (numbers_are (place_of names) [] xs)
 
 row_is : (names : List (List ℕ)) (name : List ℕ) (lists : List (List Mark)) (rule : Rule) → class_row names name lists rule ≡ row_of names name lists rule
 row_is names name lists rule = ap (λ (o : Option (List ℕ)). record { name = name; width = rule.width; vias = o; clearances = rule.stated }) (last_is names lists)
@@ -102,16 +93,19 @@ loaded_are pins keeps parts wiring =
 
 -- ---- the design
 
-abbrev parts_with : Gathered → List NetRow → List ClassRow → List Item → Parts
-parts_with g nets classes is = record { name = g.name; layers = g.structure.layers; stacks = g.library.stacks; nets = nets; classes = classes; outline = g.structure.outline; items = is }
+abbrev parts_with : Gathered → List NetRow → List ClassRow → List PairRow → List Item → Parts
+parts_with g nets classes pairs is = record { name = g.name; layers = g.structure.layers; stacks = g.library.stacks; nets = nets; classes = classes; pairs = pairs; outline = g.structure.outline; items = is }
 
 -- the design that is assembled is that of what was stated
 pub assembled_is : (g : Gathered) → assembled g ≡ laid_out g
 assembled_is g =
     let is = with_placed g.pins g.structure.keeps g.placement.parts ++ g.wiring.items in
-    ap (λ (x : List NetRow). parts_with g x (rows_of g).classes is) (nets_are g.nets g.numbers)
-    ∙ ap (λ (x : List ClassRow). parts_with g (rows_of_nets g.nets g.numbers) x is) (classes_are g.library.names g.structure g.classes)
-    ∙ ap (parts_with g (rows_of_nets g.nets g.numbers) (rows_of_classes g.library.names g.structure g.classes)) (loaded_are g.pins g.structure.keeps g.placement.parts g.wiring.items)
+    let nets = rows_of_nets g.nets g.numbers in
+    let classes = rows_of_classes g.library.names g.structure g.classes in
+    ap (λ (x : List NetRow). parts_with g x (rows_of g).classes (rows_of g).pairs is) (nets_are g.nets g.numbers)
+    ∙ ap (λ (x : List ClassRow). parts_with g nets x (rows_of g).pairs is) (classes_are g.library.names g.structure g.classes)
+    ∙ ap (λ (x : List PairRow). parts_with g nets classes x is) (pairs_are g.classes g.between)
+    ∙ ap (parts_with g nets classes (rows_of_pairs g.classes g.between)) (loaded_are g.pins g.structure.keeps g.placement.parts g.wiring.items)
 
 -- what is made of rows that were copied is the design of what was stated
 pub if_assembled : {E : Type 0} (g : Gathered) (x : Laid) (r : Result Parts E) → x ≡ rows_of g → IfOk r (λ (p : Parts). p ≡ with_rows g x) → IfOk r (λ (p : Parts). p ≡ assembled g)

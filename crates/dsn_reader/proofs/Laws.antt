@@ -1,7 +1,6 @@
 -- What a text and its design are to each other, for the crates above.
-use Rattle.std.proofs.Common.{◌≡◌, ℕ, ◌<◌, ◌≤◌, Bool, true, false, ltb, List, length, Result, Ok, Err, refl, sym, ap, ◌∙◌, subst, arith, inl, inr}
+use Rattle.std.proofs.Common.{◌≡◌, ℕ, ◌≤◌, Bool, true, false, ltb, List, length, Result, Ok, Err, refl, sym, ◌∙◌, subst, arith, inl, inr}
 use Rattle.std.proofs.lemmas.Bool.{ltb-true, ltb-false}
-use Rattle.std.specs.Prelude.{MatchResult, ⊤}
 use Rattle.sexp_text.specs.Forest.{Forest}
 use Rattle.sexp_text.specs.Build.{forest_of}
 use Rattle.sexp_text.specs.Tree.{IsTree, IsFirstFault as IsFirstTextFault}
@@ -10,7 +9,9 @@ use Rattle.sexp_text.specs.declared.fault.TextFault.TheVariants as texts
 use Rattle.sexp_text.proofs.FirstFaults.{Meets, forest_met, tree_again, fault_again}
 use Rattle.board_rules.specs.declared.design.Design.{Design}
 use Rattle.board_rules.specs.declared.design.Parts.{Parts}
-use Rattle.board_rules.specs.Classes.{untyped_of, largest_of}
+use Rattle.board_rules.specs.Classes.{untyped_of}
+use Rattle.board_rules.specs.Needs.{largest_stated}
+use Rattle.board_rules.specs.PairTables.{pair_tables_of}
 use Rattle.board_rules.specs.Designs.{IsSound}
 use Rattle.board_rules.specs.Tables.{tables_of}
 use Rattle.board_rules.proofs.Same.{same_design}
@@ -89,11 +90,13 @@ abbrev design_of_sound : (p : Parts) → IsSound p → Design
 design_of_sound p s = record {
   parts = p;
   tables = tables_of p.classes;
-  untyped = untyped_of p;
-  largest = largest_of p;
+  pairs = pair_tables_of p;
+  start = untyped_of p;
+  largest = largest_stated p;
   sound = s;
   tabled = refl;
-  untyped_is = refl;
+  paired = refl;
+  start_is = refl;
   largest_is = refl;
 }
 

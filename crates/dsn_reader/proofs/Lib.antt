@@ -7,6 +7,8 @@ pub mod TextSizes
 pub mod Fits
 pub mod Laws
 pub mod UnknownLaws
+pub mod NumberingLaws
+pub mod PairRowLaws
 pub mod AssemblyLaws
 pub mod NetLaws
 pub mod TrackLaws

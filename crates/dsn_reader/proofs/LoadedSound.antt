@@ -1,5 +1,5 @@
 -- The pads and keepouts of a design are items within the limits.
-use Rattle.std.proofs.Common.{◌≡◌, ℕ, ◌^◌, ◌≤◌, ◌<◌, Bool, true, false, cond, List, [], ◌∷◌, ◌++◌, length, map, Option, Some, None, refl, sym, ap, subst, arith}
+use Rattle.std.proofs.Common.{◌≡◌, ℕ, ◌^◌, ◌<◌, Bool, true, false, cond, List, [], ◌∷◌, ◌++◌, length, map, Option, Some, None, refl, sym, subst}
 use Rattle.std.specs.List.{AllByRecursion}
 use Rattle.std.proofs.lemmas.List.{length-map}
 use Rattle.std.proofs.lemmas.List.Elements.{All-from_recursion}
@@ -7,7 +7,6 @@ use Rattle.seg_geometry.specs.declared.points.Pt.{Pt}
 use Rattle.seg_geometry.specs.Points.{IsInRange}
 use Rattle.area_geometry.specs.declared.shapes.Shape.{Shape}
 use Rattle.area_geometry.specs.Copper.{IsWithinLimits, core_points, placed}
-use Rattle.board_items.specs.declared.items.Item.{Item}
 use Rattle.board_items.specs.declared.items.Item.TheVariants as items
 use Rattle.board_items.specs.declared.items.KeepKind.{KeepKind}
 use Rattle.board_items.specs.Shapes.{origin}

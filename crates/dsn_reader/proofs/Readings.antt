@@ -1,6 +1,6 @@
 -- What the tree of a text gives is what the text states, and the other way round.
-use Rattle.std.proofs.Common.{◌≡◌, ℕ, ◌<◌, ◌≤◌, List, length, Result, Ok, Err, refl, sym, ap, ◌∙◌, subst, arith, inl, inr}
-use Rattle.std.specs.Prelude.{◌⊎◌, IfOk, IfErr, MatchResult, ⊤}
+use Rattle.std.proofs.Common.{◌≡◌, ℕ, ◌<◌, ◌≤◌, List, length, Result, Ok, Err, refl, sym, ◌∙◌, subst, arith, inl, inr}
+use Rattle.std.specs.Prelude.{IfOk, IfErr, MatchResult, ⊤}
 use Rattle.sexp_text.specs.Forest.{Forest}
 use Rattle.sexp_text.specs.Tree.{IsTree, IsFirstFault as IsFirstTextFault, WhyNoTree}
 use Rattle.sexp_text.specs.Trees.{tree_forest}

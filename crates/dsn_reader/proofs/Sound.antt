@@ -1,10 +1,10 @@
 -- What the wiring section states is within the limits.
-use Rattle.std.proofs.Common.{◌≡◌, ℕ, zero, suc, ◌+◌, ◌-◌, ◌^◌, ◌≤◌, ◌<◌, Bool, true, false, List, [], ◌∷◌, ◌++◌, length, map, Option, Some, None, Ok, refl, sym, ap, subst, arith, le_refl}
+use Rattle.std.proofs.Common.{◌≡◌, ℕ, zero, suc, ◌^◌, ◌≤◌, ◌<◌, Bool, true, false, List, [], ◌∷◌, ◌++◌, length, map, Option, Some, None, Ok, refl, sym, ap, subst, arith, le_refl}
 use Rattle.std.specs.Prelude.{nat_lt, nat_le, ◌&&◌, IfSome, is_some, slice_get, unsigned_abs, ◌+ℤ◌}
 use Rattle.std.specs.List.{AllByRecursion, list_all}
 use Rattle.std.proofs.lemmas.List.{length-append, length-map}
 use Rattle.std.proofs.lemmas.List.Elements.{All-from_recursion}
-use Rattle.sexp_text.specs.Forest.{Forest, End}
+use Rattle.sexp_text.specs.Forest.{Forest}
 use Rattle.sexp_text.specs.declared.units.Unit.{Unit as LengthUnit}
 use Rattle.seg_geometry.specs.declared.points.Pt.{Pt}
 use Rattle.seg_geometry.specs.Points.{IsInRange}

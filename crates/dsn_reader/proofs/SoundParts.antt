@@ -1,13 +1,11 @@
 -- The design that a text states is sound.
-use Rattle.std.proofs.Common.{◌≡◌, ℕ, zero, suc, ◌+◌, ◌-◌, ◌*◌, ◌^◌, ◌≤◌, ◌<◌, Bool, true, false, List, [], ◌∷◌, ◌++◌, map, length, Option, Some, None, Ok, Err, refl, sym, ap, ◌∙◌, subst, arith, le_refl}
+use Rattle.std.proofs.Common.{◌≡◌, ℕ, zero, suc, ◌+◌, ◌-◌, ◌*◌, ◌^◌, ◌≤◌, ◌<◌, Bool, true, false, List, [], ◌∷◌, ◌++◌, map, length, Option, Some, None, Ok, refl, sym, ap, ◌∙◌, subst, arith}
 use Rattle.std.specs.Prelude.{slice_get, set, get_or, replicate, ◌==◌, if◌then◌else◌}
 use Rattle.std.specs.List.{AllByRecursion}
 use Rattle.std.proofs.lemmas.List.{length-append, length-map}
 use Rattle.std.proofs.lemmas.List.Sums.{sum_by-cons}
 use Rattle.sexp_text.specs.Forest.{Forest}
 use Rattle.sexp_text.specs.Nodes.{size}
-use Rattle.seg_geometry.specs.declared.points.Pt.{Pt}
-use Rattle.seg_geometry.specs.Points.{IsInRange}
 use Rattle.area_geometry.specs.declared.shapes.Core.{Core}
 use Rattle.area_geometry.specs.declared.shapes.Core.TheVariants.{Chain, Area}
 use Rattle.area_geometry.specs.declared.shapes.Shape.{Shape}
@@ -21,7 +19,6 @@ use Rattle.board_rules.specs.declared.design.Parts.{Parts}
 use Rattle.board_rules.specs.Designs.{HasCore, AreThere, IsFitClass, IsFitItem, IsSound}
 use Rattle.dsn_lists.specs.declared.marks.Mark.{Mark}
 use Rattle.dsn_lists.specs.declared.rules.Rule.{Rule}
-use Rattle.dsn_lists.specs.Results.{◌>>=◌}
 use Rattle.dsn_lists.specs.Names.{place_of}
 use Rattle.dsn_lists.specs.Pcbs.{design_of}
 use Rattle.dsn_lists.specs.Lists.{collect}
@@ -46,20 +43,22 @@ use Rattle.dsn_placement.specs.PlaceParts.{shapes_of_placed, points_of_parts}
 use Rattle.dsn_placement.specs.PlaceLimits.{IsFitPlaced}
 use Rattle.dsn_network.specs.References.{net_at}
 use Rattle.dsn_network.specs.Networks.{network_of, in_class, named_in, classed}
-use Rattle.dsn_library.specs.Limits.{IsFitStack, IsFitLibrary}
+use Rattle.dsn_library.specs.Limits.{IsFitLibrary}
 use Rattle.dsn_network.specs.Limits.{IsFitNetwork}
 use Rattle.dsn_library.proofs.Sound.{library_of_fit, HaveAtMost, library_of_few}
 use Rattle.dsn_placement.proofs.FitShapes.{fit_shapes}
-use Rattle.dsn_network.proofs.NetworkSound.{network_of_fit}
+use Rattle.dsn_network.proofs.NetworkSound.{network_of_few, network_of_fit}
 use Rattle.dsn_network.proofs.NetworkWhole.{has_found as network_found}
 use Rattle.dsn_placement.proofs.PlacementWhole.{has_found as placement_found}
 use Rattle.dsn_placement.proofs.PlaceFits.{placement_fit}
 use Rattle.dsn_reader.specs.declared.wiring.Wiring.{Wiring}
 use Rattle.dsn_reader.specs.Wirings.{Netted, wiring_of}
-use Rattle.dsn_reader.specs.Assembly.{known_vias, with_number, numbers_of, held_vias, last_vias, class_row, class_rows, row_at, net_rows, classes_of, item_of, Gathered, assembled, Wired, wired_of, behind_library, sections_of, parts_of}
+use Rattle.dsn_reader.specs.Assembly.{known_vias, held_vias, last_vias, class_row, class_rows, row_at, net_rows, classes_of, item_of, Gathered, assembled, Wired, wired_of, behind_library, sections_of, parts_of}
 use Rattle.dsn_reader.proofs.Sound.{IsFitWiring}
 use Rattle.dsn_reader.specs.Meaning.{used_in, section as wiring_in}
 use Rattle.dsn_reader.proofs.Sound.{wiring_of_fit, fit_items}
+use Rattle.dsn_reader.proofs.NumberingLaws.{numbers_below}
+use Rattle.dsn_reader.proofs.PairRowLaws.{pairs_fit}
 use Rattle.dsn_reader.proofs.AssemblyLaws.{loaded_are}
 use Rattle.dsn_reader.proofs.LoadedSound.{keep_fits, pad_fits, net_below, all_joined}
 use Rattle.dsn_reader.proofs.NetLaws.{long_with}
@@ -75,18 +74,9 @@ length_rows names rows (c ∷ cs) =
     let one = length-append rows (class_row names c.name c.vias c.rule ∷ []) in
     omega (arith, more, one)
 
-number_below : (n : ℕ) (ids : List ℕ) (o : Option ℕ) → AllByRecursion (λ (i : ℕ). i < n) ids → ((k : ℕ) → o ≡ Some k → k < n) → AllByRecursion (λ (i : ℕ). i < n) (with_number ids o)
-number_below n ids None p below = p
-number_below n ids (Some k) p below = all_push (λ (i : ℕ). i < n) ids k p (below k refl)
-
-numbers_below : (names : List (List ℕ)) (ids : List ℕ) (ms : List Mark) → AllByRecursion (λ (i : ℕ). i < length names) ids → AllByRecursion (λ (i : ℕ). i < length names) (numbers_of names ids ms)
-unfolding numbers_of
-numbers_below names ids [] p = p
-numbers_below names ids (m ∷ ms) p = numbers_below names (with_number ids (place_of names m.name)) ms (number_below (length names) ids (place_of names m.name) p (place_bound names m.name))
-
 held_there : (names : List (List ℕ)) (o : Option (List Mark)) → AreThere (length names) (held_vias names o)
 held_there names None = tt
-held_there names (Some ms) = numbers_below names [] ms tt
+held_there names (Some ms) = numbers_below (length names) (place_of names) (place_bound names) [] ms tt
 
 vias_there : (names : List (List ℕ)) (lists : List (List Mark)) → AreThere (length names) (last_vias names lists)
 unfolding last_vias
@@ -206,7 +196,7 @@ all_pins_below n m (q ∷ qs) low h = let own = h.0 in (omega (arith, low, own),
 -- ---- the design
 
 abbrev gathering : List ℕ → Structure → Library → Placement → Network → Netted Wiring → Gathered
-gathering name s l p n w = record { name = name; structure = s; library = l; placement = p; classes = n.classes; pins = n.pins; numbers = classes_of n; nets = w.nets; wiring = w.it }
+gathering name s l p n w = record { name = name; structure = s; library = l; placement = p; classes = n.classes; between = n.pairs; pins = n.pins; numbers = classes_of n; nets = w.nets; wiring = w.it }
 
 few_all : (most : ℕ) (ps : List Padstack) → most < 2 ^ 32 → HaveAtMost most ps → AllByRecursion (λ (s : Padstack). length s.shapes < 2 ^ 32) ps
 few_all most [] low h = tt
@@ -218,21 +208,23 @@ record AreFitSections (s : Structure) (l : Library) (p : Placement) (n : Network
   few_areas : length s.outline ≤ most
   library : IsFitLibrary (length s.layers) l
   few_shapes : HaveAtMost most l.stacks
+  few_classes : length n.classes ≤ most
   placement : AllByRecursion (IsFitPlaced (length s.layers)) p.parts
   points : points_of_parts p.parts ≤ 4000000
   network : IsFitNetwork n
   more_nets : length n.nets ≤ length w.nets
   wiring : IsFitWiring (length s.layers) l.stacks w
 
-fit_gathering : (name : List ℕ) (s : Structure) (l : Library) (x : Placement) (n : Network) (w : Netted Wiring) (most : ℕ) → most < 2 ^ 32 → AreFitSections s l x n w most
+fit_gathering : (name : List ℕ) (s : Structure) (l : Library) (x : Placement) (n : Network) (w : Netted Wiring) (most : ℕ) → most + 1 < 2 ^ 32 → AreFitSections s l x n w most
     → length (assembled (gathering name s l x n w)).items ≤ 200000 → IsSound (assembled (gathering name s l x n w))
 fit_gathering name s l x n w most low h few_items =
     let p = assembled (gathering name s l x n w) in
     let count = length_rows l.names (class_row l.names [] s.vias s.rule ∷ []) n.classes in
     let nets = length_net_rows (length w.nets) w.nets (classes_of n) in
     let few_nets = h.wiring.nets in
-    let small = few_all most l.stacks low h.few_shapes in
+    let small = few_all most l.stacks (omega (arith, low)) h.few_shapes in
     let few_areas = h.few_areas in
+    let few_classes = h.few_classes in
     let more_nets = h.more_nets in
     let some : 0 < length p.classes = omega (arith, count) in
     let below = classed_below n.nets 1 (replicate (length n.nets) 0) n.classes (zeros_below (length n.nets)) in
@@ -247,9 +239,11 @@ fit_gathering name s l x n w most low h few_items =
       few_nets = omega (arith, nets, few_nets);
       few_stacks = h.library.few;
       few_areas = omega (arith, few_areas, low);
+      few_classes = omega (arith, count, few_classes, low);
       few_items = few_items;
       nets = rows_below (length p.classes) (length w.nets) w.nets (classes_of n) some (all_below (1 + length n.classes) (length p.classes) (classes_of n) (omega (arith, count)) below);
       classes = fit_rows (length l.stacks) l.names (class_row l.names [] s.vias s.rule ∷ []) n.classes h.library.names (fit_row (length l.stacks) l.names [] s.vias s.rule h.library.names h.structure.rule, tt) h.network.rules;
+      pairs = pairs_fit (length p.classes) n.classes n.pairs (omega (arith, count)) h.network.between;
       stacks = h.library.shapes;
       few_shapes = small;
       outline = h.structure.outline;
@@ -257,7 +251,7 @@ fit_gathering name s l x n w most low h few_items =
     }
 
 abbrev with_wired : List ℕ → Structure → Library → Placement → Network → Wired → Gathered
-with_wired name s l p n x = record { name = name; structure = s; library = l; placement = p; classes = n.classes; pins = n.pins; numbers = x.numbers; nets = x.nets; wiring = x.wiring }
+with_wired name s l p n x = record { name = name; structure = s; library = l; placement = p; classes = n.classes; between = n.pairs; pins = n.pins; numbers = x.numbers; nets = x.nets; wiring = x.wiring }
 
 -- what the sections behind the library give
 record Behind (f : Forest) (name : List ℕ) (s : Structure) (l : Library) (g : Gathered) : Type 0 where
@@ -296,6 +290,7 @@ fit_sections f name s l g se le x =
       few_areas = structure_of_few f s se;
       library = library;
       few_shapes = library_of_few f s.layers l le;
+      few_classes = network_of_few f x.placement l x.network x.network_is;
       placement = fit.parts;
       points = omega (arith, all, taken);
       network = network;
@@ -323,7 +318,7 @@ few_behind f name s l g se x =
     let last = laid.2.few_items in
     omega (arith, whole, front, back, parts, first, second, third, last)
 
-sections_sound : (f : Forest) (g : Gathered) → 32 * size f < 2 ^ 32 → sections_of f ≡ Ok g → IsSound (assembled g)
+sections_sound : (f : Forest) (g : Gathered) → 32 * size f + 1 < 2 ^ 32 → sections_of f ≡ Ok g → IsSound (assembled g)
 unfolding sections_of
 sections_sound f g small e =
     let a = bind_ok (design_of f) _ g e in

@@ -1,12 +1,9 @@
 -- The sections read one after another are the design that they state, or its first fault, and the other way round.
-use Rattle.std.proofs.Common.{◌≡◌, ℕ, zero, suc, ◌<◌, ◌≤◌, length, List, Ok, Err, refl, sym, ap, ◌∙◌, subst, arith, inl, inr}
-use Rattle.std.specs.Prelude.{◌⊎◌, ◌==◌, if◌then◌else◌, MatchResult, ⊤}
-use Rattle.std.proofs.Math.Dec.{eqb-suc-zero}
+use Rattle.std.proofs.Common.{◌≡◌, ℕ, ◌≤◌, length, List, Ok, Err, refl, sym, ap, ◌∙◌, subst, inl, inr}
+use Rattle.std.specs.Prelude.{MatchResult, ⊤}
 use Rattle.sexp_text.specs.Forest.{Forest}
 use Rattle.board_rules.specs.declared.design.Parts.{Parts}
 use Rattle.dsn_lists.specs.declared.faults.DesignFault.{DesignFault}
-use Rattle.dsn_lists.specs.declared.faults.DesignKind.TheVariants as kind
-use Rattle.dsn_lists.specs.declared.pcb.Section.TheVariants as sections
 use Rattle.dsn_lists.specs.declared.pcb.Title.{Title}
 use Rattle.dsn_lists.specs.declared.faults.ReadWhy.{ReadWhy}
 use Rattle.dsn_lists.specs.declared.faults.ReadWhy.TheVariants.{Fault, Memory}
@@ -57,10 +54,10 @@ record Behind (f : Forest) (name : List ℕ) (s : Structure) (l : Library) (g : 
   connected : network_of f placement l ≡ Ok network
   laid : wiring_of f s.layers l network.nets network.quota ≡ Ok wired
   known : known_vias l.names s network.classes ≡ Ok tt
-  same : record { name = name; structure = s; library = l; placement = placement; classes = network.classes; pins = network.pins; numbers = classes_of network; nets = wired.nets; wiring = wired.it } ≡ g
+  same : record { name = name; structure = s; library = l; placement = placement; classes = network.classes; between = network.pairs; pins = network.pins; numbers = classes_of network; nets = wired.nets; wiring = wired.it } ≡ g
 
 abbrev with_wired : List ℕ → Structure → Library → Placement → Network → Wired → Gathered
-with_wired name s l p n x = record { name = name; structure = s; library = l; placement = p; classes = n.classes; pins = n.pins; numbers = x.numbers; nets = x.nets; wiring = x.wiring }
+with_wired name s l p n x = record { name = name; structure = s; library = l; placement = p; classes = n.classes; between = n.pairs; pins = n.pins; numbers = x.numbers; nets = x.nets; wiring = x.wiring }
 
 behind_found : (f : Forest) (name : List ℕ) (s : Structure) (l : Library) (g : Gathered) → behind_library f name s l ≡ Ok g → Behind f name s l g
 unfolding behind_library wired_of

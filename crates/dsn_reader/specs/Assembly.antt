@@ -17,6 +17,7 @@ use Rattle.dsn_structure.specs.declared.structure.Structure.{Structure}
 use Rattle.dsn_structure.specs.Structures.{structure_of}
 use Rattle.dsn_library.specs.declared.library.Library.{Library}
 use Rattle.dsn_network.specs.declared.classes.Class.{Class}
+use Rattle.dsn_network.specs.declared.pairs.ClassPairs.{ClassPairs}
 use Rattle.dsn_network.specs.declared.network.Network.{Network}
 use Rattle.dsn_library.specs.Libraries.{library_of}
 use Rattle.dsn_placement.specs.Components.{placement_of}
@@ -29,6 +30,8 @@ use Rattle.dsn_reader.specs.declared.reader.Sections.{Sections}
 use Rattle.dsn_reader.specs.declared.reader.Laid.{Laid}
 use Rattle.dsn_reader.specs.declared.wiring.Wiring.{Wiring}
 use Rattle.dsn_reader.specs.Wirings.{wiring_of}
+use Rattle.dsn_reader.specs.Numbering.{numbers_by}
+use Rattle.dsn_reader.specs.PairAssembly.{all_pairs}
 
 -- ---- the padstacks that lists of vias name
 
@@ -63,18 +66,13 @@ known_vias names s classes = unless_unknown (least_in_classes names (least_in_li
 
 -- ---- classes and nets
 
-abbrev pub with_number : List ℕ → Option ℕ → List ℕ
-with_number ids None = ids
-with_number ids (Some n) = ids ++ n ∷ []
-
--- the numbers of the padstacks of these names, behind others
-unfoldable pub numbers_of : List (List ℕ) → List ℕ → List Mark → List ℕ
-numbers_of names ids [] = ids
-numbers_of names ids (m ∷ ms) = numbers_of names (with_number ids (place_of names m.name)) ms
+-- the numbers of the padstacks of these names
+abbrev pub numbers_of : List (List ℕ) → List Mark → List ℕ
+numbers_of names ms = numbers_by (place_of names) [] ms
 
 abbrev pub held_vias : List (List ℕ) → Option (List Mark) → Option (List ℕ)
 held_vias names None = None
-held_vias names (Some ms) = Some (numbers_of names [] ms)
+held_vias names (Some ms) = Some (numbers_of names ms)
 
 -- the numbers of the list of vias that holds: the last one
 unfoldable pub last_vias : List (List ℕ) → List (List Mark) → Option (List ℕ)
@@ -124,13 +122,15 @@ with_placed pins is (x ∷ xs) = with_placed pins (is ++ item_of pins x ∷ []) 
 
 -- ---- the design
 
--- what the sections of a design state: its classes, the class of each net of the network, and all nets
+-- what the sections of a design state: its classes, what is stated between them, the class of each net of the network, and
+-- all nets
 pub record Gathered : Type 0 where
   pub name : List ℕ
   pub structure : Structure
   pub library : Library
   pub placement : Placement
   pub classes : List Class
+  pub between : List ClassPairs
   pub pins : List ((ℕ × ℕ) × ℕ)
   pub numbers : List ℕ
   pub nets : List (List ℕ)
@@ -143,6 +143,7 @@ gathered s = record {
   library = s.library;
   placement = s.placement;
   classes = s.network.classes;
+  between = s.network.pairs;
   pins = s.network.pins;
   numbers = s.numbers.items;
   nets = s.network.nets;
@@ -155,6 +156,7 @@ rows_of g = record {
   layers = g.structure.layers;
   nets = net_rows (length g.nets) g.nets g.numbers;
   classes = all_classes g.library.names g.structure g.classes;
+  pairs = all_pairs g.classes g.between;
 }
 
 -- the design with these rows and the items of its sections
@@ -165,6 +167,7 @@ with_rows g x = record {
   stacks = g.library.stacks;
   nets = x.nets;
   classes = x.classes;
+  pairs = x.pairs;
   outline = g.structure.outline;
   items = with_placed g.pins g.structure.keeps g.placement.parts ++ g.wiring.items;
 }
@@ -194,7 +197,7 @@ behind_library f name s l = do
   p ← placement_of f s l
   n ← network_of f p l
   w ← wired_of f s l n
-  Ok (record { name = name; structure = s; library = l; placement = p; classes = n.classes; pins = n.pins; numbers = w.numbers; nets = w.nets; wiring = w.wiring })
+  Ok (record { name = name; structure = s; library = l; placement = p; classes = n.classes; between = n.pairs; pins = n.pins; numbers = w.numbers; nets = w.nets; wiring = w.wiring })
 
 -- what the sections of a design state, or the first fault
 unfoldable pub sections_of : Forest → Read Gathered

@@ -1,6 +1,7 @@
 -- What the lists of a wire or a via say of its net and its type, and what is wrong with lists that say nothing of the kind.
 -- Models: the net and type descriptors in the wiring of the SPECCTRA reference.
 use Rattle.std.specs.Prelude.{◌≡◌, ◌≤◌, ℕ, Bool, ◌⊎◌, true, false, List, [], ◌∷◌, ◌++◌, length, Option, Some, None, is_some, if◌then◌else◌}
+use Rattle.row_lists.specs.Limits.{net_limit}
 use Rattle.sexp_text.specs.Forest.{Forest, End, Word, Branch}
 use Rattle.dsn_lists.specs.declared.faults.DesignFault.{DesignFault}
 use Rattle.dsn_lists.specs.declared.faults.DesignKind.TheVariants as kind
@@ -56,7 +57,7 @@ IsNet nets f n = HasWord (λ text rest. (only_lists rest ≡ true) × (place_of 
 
 -- the name is new, and there are 100,000 nets already
 abbrev pub IsNetTooMany : List (List ℕ) → List ℕ → Type 0
-IsNetTooMany nets text = (is_among text nets ≡ false) × (100000 ≤ length nets)
+IsNetTooMany nets text = (is_among text nets ≡ false) × (net_limit ≤ length nets)
 
 -- the fault of a list that is to name a net
 abbrev pub NetFault : List (List ℕ) → ℕ → Forest → DesignFault → Type 0
@@ -96,7 +97,7 @@ pub record AreEnds (nets : List (List ℕ)) (f : Forest) (x : Ends) : Type 0 whe
 -- the same, where the net is put behind these nets if it isn't there; there are at most 100,000
 pub record HasEnds (nets : List (List ℕ)) (f : Forest) (x : Netted Ends) : Type 0 where
   pub nets_are : x.nets ≡ with_names nets (collect names_in f)
-  pub few : length x.nets ≤ 100000
+  pub few : length x.nets ≤ net_limit
   pub ends_are : AreEnds x.nets f x.it
 
 -- what is wrong with a list that begins at this byte, behind lists that state this, by its keyword

@@ -1,5 +1,7 @@
 pub mod Wirings
 pub mod Limits
+pub mod Numbering
+pub mod PairAssembly
 pub mod Assembly
 pub mod Rows
 pub mod TrackLists

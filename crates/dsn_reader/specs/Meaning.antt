@@ -2,6 +2,7 @@
 -- Models: the wiring descriptor of the SPECCTRA reference.
 use Rattle.std.specs.Prelude.{◌≡◌, ◌≤◌, ◌+◌, ℕ, ◌⊎◌, List, [], ◌∷◌, ◌++◌, length, slice_get}
 use Rattle.std.specs.List.{sum_by}
+use Rattle.row_lists.specs.Limits.{net_limit}
 use Rattle.sexp_text.specs.Forest.{Forest, End, Word, Branch}
 use Rattle.sexp_text.specs.declared.units.Unit.{Unit as LengthUnit}
 use Rattle.board_items.specs.declared.items.Item.{Item}
@@ -71,7 +72,7 @@ points_of_item stacks _ = 0
 -- with those that may still come, are the quota that there was.
 pub record IsWiring (u : LengthUnit) (layers : List (List ℕ)) (l : Library) (nets : List (List ℕ)) (quota : Quota) (f : Forest) (x : Netted Wiring) : Type 0 where
   pub nets_are : x.nets ≡ with_names nets (collect used_in f)
-  pub few_nets : length x.nets ≤ 100000
+  pub few_nets : length x.nets ≤ net_limit
   pub items_are : HaveItems u layers l x.nets f x.it.items
   pub few_items : length x.it.items + x.it.quota.items ≡ quota.items
   pub few_points : sum_by (points_of_item l.stacks) x.it.items + x.it.quota.points ≡ quota.points

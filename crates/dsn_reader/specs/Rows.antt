@@ -1,11 +1,14 @@
 -- What classes and nets a design has, and which name of a padstack is unknown.
 -- Models: the use_via, circuit, class and net descriptors of the SPECCTRA reference.
-use Rattle.std.specs.Prelude.{◌≡◌, ℕ, ◌≤◌, ◌⊎◌, true, false, List, [], ◌∷◌, ◌++◌, map, Some, None, option_to_list}
+use Rattle.std.specs.Prelude.{◌≡◌, ℕ, suc, ◌≤◌, ◌⊎◌, true, false, List, [], ◌∷◌, ◌++◌, map, Option, Some, None, option_to_list, if◌then◌else◌}
 use Rattle.std.specs.List.{flat_map, AllByRecursion}
 use Rattle.std.specs.Option.{option_map}
+use Rattle.std.specs.Str.{bytes_eq}
 use Rattle.board_rules.specs.declared.design.ClassRow.{ClassRow}
 use Rattle.board_rules.specs.declared.design.NetRow.{NetRow}
+use Rattle.board_rules.specs.declared.design.PairRow.{PairRow}
 use Rattle.board_rules.specs.declared.design.Parts.{Parts}
+use Rattle.board_rules.specs.declared.design.Stated.{Stated}
 use Rattle.dsn_lists.specs.declared.faults.DesignFault.{DesignFault}
 use Rattle.dsn_lists.specs.declared.faults.DesignKind.TheVariants as kind
 use Rattle.dsn_lists.specs.declared.marks.Mark.{Mark}
@@ -14,6 +17,7 @@ use Rattle.dsn_lists.specs.Names.{is_among, place_of}
 use Rattle.dsn_lists.specs.Lists.{last_of}
 use Rattle.dsn_structure.specs.declared.structure.Structure.{Structure}
 use Rattle.dsn_network.specs.declared.classes.Class.{Class}
+use Rattle.dsn_network.specs.declared.pairs.ClassPairs.{ClassPairs}
 use Rattle.dsn_reader.specs.Assembly.{Gathered, item_of}
 
 -- ---- names of padstacks
@@ -70,6 +74,27 @@ rows_of_nets [] classes = []
 rows_of_nets (name ∷ names) [] = record { name = name; class = 0 } ∷ rows_of_nets names []
 rows_of_nets (name ∷ names) (class ∷ classes) = record { name = name; class = class } ∷ rows_of_nets names classes
 
+-- ---- pairs of classes
+
+-- the number of the first of these classes that has the name, where the first of them has the number k
+abbrev pub first_named : ℕ → List Class → List ℕ → Option ℕ
+first_named k [] name = None
+first_named k (c ∷ classes) name = if bytes_eq name c.name then Some k else first_named (suc k) classes name
+
+-- the numbers of the classes of these names, each the first of its name; a name that is no class's is passed over
+abbrev pub numbers_of_classes : List Class → List Mark → List ℕ
+numbers_of_classes classes ms = flat_map (λ (m : Mark). option_to_list (first_named 1 classes m.name)) ms
+
+-- each two of these classes by their places, the one that stands first named first, with what is stated for them
+abbrev pub each_two : List Stated → List ℕ → List PairRow
+each_two stated [] = []
+each_two stated (a ∷ more) = map (λ (b : ℕ). record { a = a; b = b; clearances = stated }) more ++ each_two stated more
+
+-- The pairs of classes of a design, list by list in the order of the text. A row stands for the pair of its names, so of
+-- classes of one name the first alone has rows.
+abbrev pub rows_of_pairs : List Class → List ClassPairs → List PairRow
+rows_of_pairs classes lists = flat_map (λ (p : ClassPairs). each_two p.stated (numbers_of_classes classes p.names)) lists
+
 -- ---- the design
 
 -- The design of what its sections state. Its items are the structure's keepouts, then the pads and keepouts of the
@@ -81,6 +106,7 @@ laid_out g = record {
   stacks = g.library.stacks;
   nets = rows_of_nets g.nets g.numbers;
   classes = rows_of_classes g.library.names g.structure g.classes;
+  pairs = rows_of_pairs g.classes g.between;
   outline = g.structure.outline;
   items = g.structure.keeps ++ (map (item_of g.pins) g.placement.parts ++ g.wiring.items);
 }

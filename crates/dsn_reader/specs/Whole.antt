@@ -24,7 +24,7 @@ use Rattle.dsn_reader.specs.Rows.{via_names, AreKnown, ViaNameFault, laid_out}
 -- what the sections state, with the number of the class of each net of the network
 abbrev pub gathering : Title → Structure → Library → Placement → Network → List ℕ → Netted Wiring → Gathered
 gathering t s l p n numbers w =
-    record { name = t.name; structure = s; library = l; placement = p; classes = n.classes; pins = n.pins; numbers = numbers; nets = w.nets; wiring = w.it }
+    record { name = t.name; structure = s; library = l; placement = p; classes = n.classes; between = n.pairs; pins = n.pins; numbers = numbers; nets = w.nets; wiring = w.it }
 
 -- the lists and words state the design: each section gives its part behind those before it, each net of the network is of the
 -- first class that names it, and each name in a list of vias is a padstack's

@@ -1,9 +1,9 @@
 -- What a wire is, and what is wrong with a list that is none.
 -- Models: the wire descriptor in the wiring of the SPECCTRA reference, with paths alone.
 use Rattle.std.specs.Prelude.{◌≡◌, ◌≤◌, ℕ, Bool, ◌⊎◌, true, List, [], ◌∷◌, length, Option, Some, None, is_some}
+use Rattle.row_lists.specs.Limits.{net_limit}
 use Rattle.sexp_text.specs.Forest.{Forest}
 use Rattle.sexp_text.specs.declared.units.Unit.{Unit as LengthUnit}
-use Rattle.area_geometry.specs.declared.shapes.Shape.{Shape}
 use Rattle.board_items.specs.declared.items.Item.{Item}
 use Rattle.board_items.specs.declared.items.Item.TheVariants as items
 use Rattle.dsn_lists.specs.declared.faults.DesignFault.{DesignFault}
@@ -52,7 +52,7 @@ pub record IsDraft (u : LengthUnit) (layers nets : List (List ℕ)) (f : Forest)
 -- the same, where the net is put behind these nets if it isn't there; there are at most 100,000
 pub record HasDraft (u : LengthUnit) (layers nets : List (List ℕ)) (f : Forest) (x : Netted Draft) : Type 0 where
   pub nets_are : x.nets ≡ with_names nets (collect names_in f)
-  pub few : length x.nets ≤ 100000
+  pub few : length x.nets ≤ net_limit
   pub draft : IsDraft u layers x.nets f x.it
 
 -- a wire: one path and one net, at most one type, and fixed where the type is `fix`

@@ -1,9 +1,10 @@
 -- What the lists of the wiring section state.
 -- Models: the wiring, wire and via descriptors of the SPECCTRA reference, with paths alone. Left out: wiring without a
 -- net, and shapes that aren't paths, which are refused.
-use Rattle.std.specs.Prelude.{ℕ, nat_lt, nat_le, ◌||◌, ◌&&◌, ℤ, ◌+ℤ◌, unsigned_abs, Bool, true, false, is_some, List, [], ◌∷◌, ◌++◌, slice_get, codes, length, Option, Some, None, Ok, if◌then◌else◌}
+use Rattle.std.specs.Prelude.{ℕ, nat_le, ◌&&◌, ℤ, ◌+ℤ◌, unsigned_abs, Bool, true, false, is_some, List, [], ◌∷◌, ◌++◌, slice_get, codes, length, Option, Some, None, Ok, if◌then◌else◌}
 use Rattle.std.specs.List.{list_all}
-use Rattle.sexp_text.specs.Forest.{Forest, End, Word, Branch}
+use Rattle.row_lists.specs.Limits.{net_limit, coordinate_limit_nm}
+use Rattle.sexp_text.specs.Forest.{Forest}
 use Rattle.sexp_text.specs.declared.units.Unit.{Unit as LengthUnit}
 use Rattle.seg_geometry.specs.declared.points.Pt.{Pt}
 use Rattle.area_geometry.specs.declared.shapes.Shape.{Shape}
@@ -50,7 +51,7 @@ netted nets it = record { nets = nets; it = it }
 
 abbrev pub numbered : List (List ℕ) → Mark → Option ℕ → Read (Netted ℕ)
 numbered nets w (Some n) = Ok (netted nets n)
-numbered nets w None = if nat_lt 99999 (length nets) then wrong kind.Large w.at else Ok (netted (nets ++ w.name ∷ []) (length nets))
+numbered nets w None = if nat_le net_limit (length nets) then wrong kind.Large w.at else Ok (netted (nets ++ w.name ∷ []) (length nets))
 
 -- the number of a net, which is put behind the others where it isn't there, of at most 100,000
 unfoldable pub net_number : List (List ℕ) → Mark → Read (Netted ℕ)
@@ -182,7 +183,7 @@ known_stack at None = wrong kind.Name at
 
 -- the place is at most 1,000,000,000 nm from 0
 unfoldable pub is_near : ℤ → ℤ → Bool
-is_near a b = nat_le (unsigned_abs (a +ℤ b)) 1000000000
+is_near a b = nat_le (unsigned_abs (a +ℤ b)) coordinate_limit_nm
 
 abbrev pub is_point_near : Pt → Pt → Bool
 is_point_near p q = is_near q.x p.x && is_near q.y p.y

@@ -1,11 +1,13 @@
 //! The design of what its sections state.
 ghost use Rattle.std.specs.Prelude.{◌≡◌, ◌≤◌, ◌<◌, ◌^◌, true, [], length, Some, None, Err, is_ok, IfOk, IfErr, OnOk};
+ghost use Rattle.row_lists.specs.Limits.{padstack_limit};
 ghost use Rattle.dsn_lists.specs.declared.faults.DesignFault.{DesignFault};
 ghost use Rattle.dsn_lists.specs.Results.{Tells};
 ghost use Rattle.dsn_network.specs.Networks.{in_class, named_in, classed};
 ghost use Rattle.std.specs.Option.{option_copied};
 ghost use Rattle.dsn_lists.specs.Names.{place_of};
-ghost use Rattle.dsn_reader.specs.Assembly.{lesser, least_of, least_unknown, least_in_lists, least_in_classes, known_vias, with_number, numbers_of, last_vias, class_row, class_rows, all_classes, row_at, net_rows, classes_of};
+ghost use Rattle.dsn_reader.specs.Numbering.{with_number};
+ghost use Rattle.dsn_reader.specs.Assembly.{lesser, least_of, least_unknown, least_in_lists, least_in_classes, known_vias, numbers_of, last_vias, class_row, class_rows, all_classes, row_at, net_rows, classes_of};
 ghost use Rattle.dsn_reader.specs.Rows.{via_names, AreKnown, ViaNameFault};
 
 use board_rules::{ClassRow, ClassRows, Names, NetRow, NetRows};
@@ -102,7 +104,7 @@ fn least_fault(names: &NameSet, structure: &Structure, network: &Network) -> Res
 }
 
 fn put_number(names: &NameSet, ids: &mut Ids, mark: &Mark) -> Result<(), AllocError>
-    requires { length names.now ≤ 65535 }
+    requires { length names.now ≤ padstack_limit }
     ensures { OnOk result (ids.new ≡ with_number ids.old (place_of names.now mark.now.name)) }
 {
     match names.place(mark.name.as_slice()) {
@@ -111,10 +113,10 @@ fn put_number(names: &NameSet, ids: &mut Ids, mark: &Mark) -> Result<(), AllocEr
     }
 }
 
-#[tactic(auto, unfolding(crate::specs::Assembly::numbers_of))]
+#[tactic(auto, unfolding(crate::specs::Numbering::numbers_by))]
 fn numbers_of(alloc: Global, names: &NameSet, marks: &[Mark]) -> Result<Ids, AllocError>
-    requires { length names.now ≤ 65535 }
-    ensures { IfOk result (λ ids. ids ≡ numbers_of names.now [] marks.now) }
+    requires { length names.now ≤ padstack_limit }
+    ensures { IfOk result (λ ids. ids ≡ numbers_of names.now marks.now) }
 {
     let mut ids = Row::new(alloc);
     for mark in marks {
@@ -126,7 +128,7 @@ fn numbers_of(alloc: Global, names: &NameSet, marks: &[Mark]) -> Result<Ids, All
 // The numbers of the list of vias that holds: the last one.
 #[tactic(auto, unfolding(crate::specs::Assembly::last_vias))]
 fn last_vias(alloc: Global, names: &NameSet, lists: &[Marks]) -> Result<Option<Ids>, AllocError>
-    requires { length names.now ≤ 65535 }
+    requires { length names.now ≤ padstack_limit }
     ensures { IfOk result (λ x. x ≡ last_vias names.now lists.now) }
 {
     match lists.get(lists.len().saturating_sub(1)) {
@@ -143,7 +145,7 @@ fn class_row(
     vias: &ViaLists,
     rule: &Rule,
 ) -> Result<ClassRow, AllocError>
-    requires { length names.now ≤ 65535 }
+    requires { length names.now ≤ padstack_limit }
     ensures { IfOk result (λ row. row ≡ class_row names.now name vias.now rule.now) }
 {
     Ok(ClassRow {
@@ -161,7 +163,7 @@ fn put_classes(
     rows: &mut ClassRows,
     classes: &[Class],
 ) -> Result<(), AllocError>
-    requires { length names.now ≤ 65535 }
+    requires { length names.now ≤ padstack_limit }
     ensures { OnOk result (rows.new ≡ class_rows names.now rows.old classes.now) }
 {
     for class in classes {
@@ -178,7 +180,7 @@ pub fn class_rows_of(
     structure: &Structure,
     network: &Network,
 ) -> Result<ClassRows, AllocError>
-    requires { length names.now ≤ 65535 }
+    requires { length names.now ≤ padstack_limit }
     ensures { IfOk result (λ rows. rows ≡ all_classes names.now structure.now network.now.classes) }
 {
     let mut rows = Row::new(alloc);

@@ -1,5 +1,6 @@
 //! The net and the type of wiring.
 ghost use Rattle.std.specs.Prelude.{◌≡◌, ◌≤◌, ◌<◌, length, IfOk, OnOk};
+ghost use Rattle.row_lists.specs.Limits.{net_limit};
 ghost use Rattle.sexp_text.specs.Shows.{forest};
 ghost use Rattle.dsn_lists.specs.Results.{Tells, Gives, each};
 ghost use Rattle.dsn_lists.specs.Words.{marked};
@@ -31,9 +32,9 @@ enum EndWord {
 // The number of a net, which is put behind the others where it isn't there.
 #[tactic(auto, unfolding(crate::specs::Wirings::net_number), using(crate::proofs::Fronts::front_same, crate::proofs::Fronts::front_one))]
 fn number_of(nets: &mut NameSet, word: Found<'_>) -> Result<u32, ReadWhy>
-    requires { length nets.old ≤ 100000 }
+    requires { length nets.old ≤ net_limit }
     ensures number { Gives (λ n. netted nets.new n) result (net_number nets.old (marked word.entry)) }
-    ensures few { length nets.new ≤ 100000 }
+    ensures few { length nets.new ≤ net_limit }
     ensures kept { IsFront nets.old nets.new }
 {
     if let Some(number) = nets.place(word.text) {
@@ -82,9 +83,9 @@ fn type_at(at: u32, args: Cursor<'_>) -> Result<bool, DesignFault>
 
 #[tactic(auto, unfolding(crate::specs::Wirings::net_list), using(crate::proofs::Fronts::front_same))]
 fn read_net(nets: &mut NameSet, ends: Ends, at: u32, args: Cursor<'_>) -> Result<Ends, ReadWhy>
-    requires { length nets.old ≤ 100000 }
+    requires { length nets.old ≤ net_limit }
     ensures ends { Gives (λ e. netted nets.new e) result (net_list nets.old ends at (forest args.entry)) }
-    ensures few { length nets.new ≤ 100000 }
+    ensures few { length nets.new ≤ net_limit }
     ensures kept { IsFront nets.old nets.new }
 {
     if ends.net.is_some() {
@@ -133,9 +134,9 @@ pub fn read_end(
     at: u32,
     inside: Cursor<'_>,
 ) -> Result<Ends, ReadWhy>
-    requires { length nets.old ≤ 100000 }
+    requires { length nets.old ≤ net_limit }
     ensures ends { Gives (λ e. netted nets.new e) result (end_item (netted nets.old ends) at (forest inside.entry)) }
-    ensures few { length nets.new ≤ 100000 }
+    ensures few { length nets.new ≤ net_limit }
     ensures kept { IsFront nets.old nets.new }
 {
     let head = opening(inside);
@@ -149,9 +150,9 @@ pub fn read_end(
 /// Reads the lists behind the words of a via.
 #[tactic(auto, unfolding(dsn_lists::specs::Results::each), using(crate::proofs::Fronts::front_same, crate::proofs::Fronts::front_then))]
 pub fn read_ends(nets: &mut NameSet, list: Cursor<'_>) -> Result<Ends, ReadWhy>
-    requires { length nets.old ≤ 100000 }
+    requires { length nets.old ≤ net_limit }
     ensures ends { Gives (λ e. netted nets.new e) result (each end_item (netted nets.old no_ends) (forest list.entry)) }
-    ensures few { length nets.new ≤ 100000 }
+    ensures few { length nets.new ≤ net_limit }
     ensures kept { IsFront nets.old nets.new }
 {
     let mut ends = Ends {

@@ -4,6 +4,7 @@
 mod assembly;
 mod ends;
 mod loaded;
+mod pairs;
 mod reader;
 mod texts;
 mod vias;

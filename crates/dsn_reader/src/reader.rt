@@ -1,5 +1,6 @@
 //! Reads designs.
 ghost use Rattle.std.specs.Prelude.{◌≡◌, ◌≤◌, ◌<◌, ◌^◌, IfOk, IfErr, List, ℕ, length};
+ghost use Rattle.row_lists.specs.Limits.{padstack_limit};
 ghost use Rattle.sexp_text.specs.Nodes.{size};
 ghost use Rattle.sexp_text.specs.Trees.{tree_forest};
 ghost use Rattle.board_rules.specs.Designs.{IsSound};
@@ -14,8 +15,9 @@ ghost use Rattle.dsn_reader.specs.Design.{most_bytes, IsDesign, IsFirstFault, Wh
 
 use crate::assembly::{check_vias, class_rows_of, names_of, net_rows_of, numbers_of_classes};
 use crate::loaded::loaded_items;
+use crate::pairs::pair_rows_of;
 use crate::wiring::{Wiring, read_wiring};
-use board_rules::{ClassRows, Design, Names, NetRows, Parts};
+use board_rules::{ClassRows, Design, Names, NetRows, PairRows, Parts};
 use dsn_library::{Library, read_library};
 use dsn_lists::{DesignKind, ReadWhy, Title, refused, title_of};
 use dsn_network::{Network, read_network};
@@ -57,11 +59,13 @@ struct Laid {
     layers: Names,
     nets: NetRows,
     classes: ClassRows,
+    pairs: PairRows,
 }
 
-// The rows of layers, nets and classes. Its one error is want of memory.
+// The rows of layers, nets, classes and pairs of classes. Its one error is want of memory.
 fn rows_of(alloc: Global, stated: &Sections) -> Result<Laid, AllocError>
-    requires { length stated.now.library.names ≤ 65535 }
+    requires names { length stated.now.library.names ≤ padstack_limit }
+    requires few { length stated.now.network.classes < 2 ^ 32 }
     ensures { IfOk result (λ laid. laid ≡ rows_of (gathered stated.now)) }
 {
     let structure = &stated.structure;
@@ -70,6 +74,7 @@ fn rows_of(alloc: Global, stated: &Sections) -> Result<Laid, AllocError>
         layers: names_of(alloc, &structure.layers)?,
         nets: net_rows_of(alloc, &network.nets, &stated.numbers)?,
         classes: class_rows_of(alloc, &stated.library.names, structure, network)?,
+        pairs: pair_rows_of(alloc, network)?,
     })
 }
 
@@ -99,6 +104,7 @@ fn with_rows(stated: Sections, laid: Laid) -> Result<Parts, AllocError>
         stacks: library.stacks,
         nets: laid.nets,
         classes: laid.classes,
+        pairs: laid.pairs,
         outline: structure.outline,
         items,
     })
@@ -107,7 +113,8 @@ fn with_rows(stated: Sections, laid: Laid) -> Result<Parts, AllocError>
 // The design of what its sections state. Its one error is want of memory.
 #[tactic(auto, using(crate::proofs::AssemblyLaws::if_assembled))]
 fn assemble(alloc: Global, stated: Sections) -> Result<Parts, AllocError>
-    requires { length stated.library.names ≤ 65535 }
+    requires names { length stated.library.names ≤ padstack_limit }
+    requires few { length stated.network.classes < 2 ^ 32 }
     ensures { IfOk result (λ parts. parts ≡ assembled (gathered stated)) }
 {
     let laid = rows_of(alloc, &stated)?;
@@ -130,6 +137,7 @@ fn wired_of(
     ensures wired { Gives (wired network.new.nets) result (wired_of (tree_forest tree.now) structure.now library.now network.old) }
     ensures classes { network.new.classes ≡ network.old.classes }
     ensures pins { network.new.pins ≡ network.old.pins }
+    ensures pairs { network.new.pairs ≡ network.old.pairs }
 {
     let numbers = numbers_of_classes(alloc, network)?;
     let wiring = read_wiring(alloc, tree, structure, library, network)?;
@@ -150,7 +158,8 @@ fn behind_library(
     requires structure { IsFitStructure structure }
     requires library { IsFitLibrary (length structure.layers) library }
     ensures stated { Gives gathered result (behind_library (tree_forest tree.now) title.name structure library) }
-    ensures limits { IfOk result (λ stated. length stated.library.names ≤ 65535) }
+    ensures names { IfOk result (λ stated. length stated.library.names ≤ padstack_limit) }
+    ensures few { IfOk result (λ stated. length stated.network.classes < 2 ^ 32) }
 {
     let placement = read_placement(alloc, tree, &structure, &library)?;
     let mut network = read_network(alloc, tree, &placement, &library)?;
@@ -173,7 +182,8 @@ fn behind_library(
 fn sections_of(alloc: Global, tree: &Tree) -> Result<Sections, ReadWhy>
     requires { size (tree_forest tree.now) ≤ most_bytes }
     ensures stated { Gives gathered result (sections_of (tree_forest tree.now)) }
-    ensures limits { IfOk result (λ stated. length stated.library.names ≤ 65535) }
+    ensures names { IfOk result (λ stated. length stated.library.names ≤ padstack_limit) }
+    ensures few { IfOk result (λ stated. length stated.network.classes < 2 ^ 32) }
 {
     let title = title_of(alloc, tree)?;
     let structure = read_structure(alloc, tree)?;

@@ -1,6 +1,7 @@
 //! Loaded vias.
 ghost use Rattle.std.specs.Prelude.{◌≡◌, ◌≤◌, ◌<◌, length, IfOk, slice_get, ℤ, ◌+ℤ◌};
 ghost use Rattle.std.specs.List.{list_all};
+ghost use Rattle.row_lists.specs.Limits.{net_limit, padstack_limit};
 ghost use Rattle.sexp_text.specs.Shows.{forest};
 ghost use Rattle.board_items.specs.Shapes.{shapes_of};
 ghost use Rattle.dsn_lists.specs.Results.{Tells, Gives, each};
@@ -140,10 +141,10 @@ pub fn read_via(
     at: u32,
     args: Cursor<'_>,
 ) -> Result<(), ReadWhy>
-    requires stacks { length library.now.names ≤ 65535 }
-    requires nets { length nets.old ≤ 100000 }
+    requires stacks { length library.now.names ≤ padstack_limit }
+    requires nets { length nets.old ≤ net_limit }
     ensures wiring { Gives (λ _. netted nets.new wiring.new) result (via_of unit library.now (netted nets.old wiring.old) at (forest args.entry)) }
-    ensures few { length nets.new ≤ 100000 }
+    ensures few { length nets.new ≤ net_limit }
     ensures kept { IsFront nets.old nets.new }
 {
     let (word, rest) = word_at(at, args)?;

@@ -1,5 +1,6 @@
 //! Loaded wires.
 ghost use Rattle.std.specs.Prelude.{◌≡◌, ◌≤◌, length};
+ghost use Rattle.row_lists.specs.Limits.{layer_limit, net_limit};
 ghost use Rattle.sexp_text.specs.Shows.{forest};
 ghost use Rattle.dsn_lists.specs.Results.{Gives, each};
 ghost use Rattle.dsn_reader.specs.Fronts.{IsFront};
@@ -49,7 +50,7 @@ fn track_at(
     at: u32,
     args: Cursor<'_>,
 ) -> Result<Track, ReadWhy>
-    requires { length layers.now ≤ 32 }
+    requires { length layers.now ≤ layer_limit }
     ensures { Gives (λ x. x) result (track_of unit layers.now at (forest args.entry)) }
 {
     let (word, rest) = word_at(at, args)?;
@@ -71,7 +72,7 @@ fn read_path(
     at: u32,
     args: Cursor<'_>,
 ) -> Result<Draft, ReadWhy>
-    requires { length layers.now ≤ 32 }
+    requires { length layers.now ≤ layer_limit }
     ensures { Gives (λ x. x) result (path_once unit layers.now draft at (forest args.entry)) }
 {
     if draft.track.is_some() {
@@ -115,9 +116,9 @@ fn read_wire_end(
     at: u32,
     inside: Cursor<'_>,
 ) -> Result<Draft, ReadWhy>
-    requires { length nets.old ≤ 100000 }
+    requires { length nets.old ≤ net_limit }
     ensures draft { Gives (λ d. netted nets.new d) result (ended_draft nets.old draft at (forest inside.entry)) }
-    ensures few { length nets.new ≤ 100000 }
+    ensures few { length nets.new ≤ net_limit }
     ensures kept { IsFront nets.old nets.new }
 {
     let ends = read_end(nets, draft.ends, at, inside)?;
@@ -137,10 +138,10 @@ fn read_list(
     at: u32,
     inside: Cursor<'_>,
 ) -> Result<Draft, ReadWhy>
-    requires layers { length layers.now ≤ 32 }
-    requires nets { length nets.old ≤ 100000 }
+    requires layers { length layers.now ≤ layer_limit }
+    requires nets { length nets.old ≤ net_limit }
     ensures draft { Gives (λ d. netted nets.new d) result (wire_item unit layers.now (netted nets.old draft) at (forest inside.entry)) }
-    ensures few { length nets.new ≤ 100000 }
+    ensures few { length nets.new ≤ net_limit }
     ensures kept { IsFront nets.old nets.new }
 {
     let head = opening(inside);
@@ -161,10 +162,10 @@ fn read_lists(
     nets: &mut NameSet,
     list: Cursor<'_>,
 ) -> Result<Draft, ReadWhy>
-    requires layers { length layers.now ≤ 32 }
-    requires nets { length nets.old ≤ 100000 }
+    requires layers { length layers.now ≤ layer_limit }
+    requires nets { length nets.old ≤ net_limit }
     ensures draft { Gives (λ d. netted nets.new d) result (each (wire_item unit layers.now) (netted nets.old no_draft) (forest list.entry)) }
-    ensures few { length nets.new ≤ 100000 }
+    ensures few { length nets.new ≤ net_limit }
     ensures kept { IsFront nets.old nets.new }
 {
     let mut draft = Draft {
@@ -216,10 +217,10 @@ pub fn read_wire(
     at: u32,
     args: Cursor<'_>,
 ) -> Result<(), ReadWhy>
-    requires layers { length layers.now ≤ 32 }
-    requires nets { length nets.old ≤ 100000 }
+    requires layers { length layers.now ≤ layer_limit }
+    requires nets { length nets.old ≤ net_limit }
     ensures wiring { Gives (λ _. netted nets.new wiring.new) result (wire_of unit layers.now (netted nets.old wiring.old) at (forest args.entry)) }
-    ensures few { length nets.new ≤ 100000 }
+    ensures few { length nets.new ≤ net_limit }
     ensures kept { IsFront nets.old nets.new }
 {
     let draft = read_lists(alloc, unit, layers, nets, args)?;

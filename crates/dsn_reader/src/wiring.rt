@@ -1,5 +1,6 @@
 //! The section that says what wiring is there.
 ghost use Rattle.std.specs.Prelude.{◌≡◌, ◌≤◌, length, IfOk, IfErr, Ok, Err};
+ghost use Rattle.row_lists.specs.Limits.{layer_limit, net_limit, padstack_limit};
 ghost use Rattle.sexp_text.specs.Shows.{forest};
 ghost use Rattle.sexp_text.specs.Trees.{tree_forest};
 ghost use Rattle.dsn_lists.specs.Results.{Gives, each};
@@ -90,11 +91,11 @@ fn read_list(
     at: u32,
     inside: Cursor<'_>,
 ) -> Result<(), ReadWhy>
-    requires layers { length layers.now ≤ 32 }
-    requires stacks { length library.now.names ≤ 65535 }
-    requires nets { length nets.old ≤ 100000 }
+    requires layers { length layers.now ≤ layer_limit }
+    requires stacks { length library.now.names ≤ padstack_limit }
+    requires nets { length nets.old ≤ net_limit }
     ensures wiring { Gives (λ _. netted nets.new wiring.new) result (wiring_item unit layers.now library.now (netted nets.old wiring.old) at (forest inside.entry)) }
-    ensures few { length nets.new ≤ 100000 }
+    ensures few { length nets.new ≤ net_limit }
     ensures kept { IsFront nets.old nets.new }
 {
     let head = opening(inside);
@@ -120,11 +121,11 @@ fn read_lists(
     wiring: &mut Wiring,
     list: Cursor<'_>,
 ) -> Result<(), ReadWhy>
-    requires layers { length layers.now ≤ 32 }
-    requires stacks { length library.now.names ≤ 65535 }
-    requires nets { length nets.old ≤ 100000 }
+    requires layers { length layers.now ≤ layer_limit }
+    requires stacks { length library.now.names ≤ padstack_limit }
+    requires nets { length nets.old ≤ net_limit }
     ensures wiring { Gives (λ _. netted nets.new wiring.new) result (each (wiring_item unit layers.now library.now) (netted nets.old wiring.old) (forest list.entry)) }
-    ensures few { length nets.new ≤ 100000 }
+    ensures few { length nets.new ≤ net_limit }
     ensures kept { IsFront nets.old nets.new }
 {
     let mut rest = list;
@@ -145,11 +146,11 @@ fn wiring_at(
     quota: Quota,
     place: Place<'_>,
 ) -> Result<Wiring, ReadWhy>
-    requires layers { length layers.now ≤ 32 }
-    requires stacks { length library.now.names ≤ 65535 }
-    requires nets { length nets.old ≤ 100000 }
+    requires layers { length layers.now ≤ layer_limit }
+    requires stacks { length library.now.names ≤ padstack_limit }
+    requires nets { length nets.old ≤ net_limit }
     ensures wiring { Gives (λ w. netted nets.new w) result (wiring_at unit layers.now library.now nets.old quota (spotted place.entry)) }
-    ensures few { length nets.new ≤ 100000 }
+    ensures few { length nets.new ≤ net_limit }
     ensures kept { IsFront nets.old nets.new }
 {
     let unit = unit_for(unit, place.args);
@@ -171,9 +172,9 @@ pub fn read_wiring(
     library: &Library,
     network: &mut Network,
 ) -> Result<Wiring, ReadWhy>
-    requires layers { length structure.now.layers ≤ 32 }
-    requires stacks { length library.now.names ≤ 65535 }
-    requires nets { length network.old.nets ≤ 100000 }
+    requires layers { length structure.now.layers ≤ layer_limit }
+    requires stacks { length library.now.names ≤ padstack_limit }
+    requires nets { length network.old.nets ≤ net_limit }
     ensures read { Gives (λ w. netted network.new.nets w) result (wiring_of (tree_forest tree.now) structure.now.layers library.now network.old.nets network.old.quota) }
     // What is read is the wiring of the design, with its nets, and a design that has one is read.
     ensures found { IfOk result (λ w. HasWiring (tree_forest tree.now) structure.now.layers library.now network.old.nets network.old.quota (netted network.new.nets w)) }
@@ -185,6 +186,7 @@ pub fn read_wiring(
     ensures kept { IsFront network.old.nets network.new.nets }
     ensures classes { network.new.classes ≡ network.old.classes }
     ensures pins { network.new.pins ≡ network.old.pins }
+    ensures pairs { network.new.pairs ≡ network.old.pairs }
 {
     section(alloc, tree, structure, library, network)
 }
@@ -197,13 +199,14 @@ fn section(
     library: &Library,
     network: &mut Network,
 ) -> Result<Wiring, ReadWhy>
-    requires layers { length structure.now.layers ≤ 32 }
-    requires stacks { length library.now.names ≤ 65535 }
-    requires nets { length network.old.nets ≤ 100000 }
+    requires layers { length structure.now.layers ≤ layer_limit }
+    requires stacks { length library.now.names ≤ padstack_limit }
+    requires nets { length network.old.nets ≤ net_limit }
     ensures read { Gives (λ w. netted network.new.nets w) result (wiring_of (tree_forest tree.now) structure.now.layers library.now network.old.nets network.old.quota) }
     ensures kept { IsFront network.old.nets network.new.nets }
     ensures classes { network.new.classes ≡ network.old.classes }
     ensures pins { network.new.pins ≡ network.old.pins }
+    ensures pairs { network.new.pairs ≡ network.old.pairs }
 {
     let title = title_of(alloc, tree)?;
     let place = section_of(tree, Section::Wiring);

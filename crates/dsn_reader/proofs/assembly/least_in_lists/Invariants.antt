@@ -1,4 +1,4 @@
-use Rattle.std.proofs.Common.{◌≡◌, ◌≤◌, ◌++◌, suc, Some, length, drop}
+use Rattle.std.proofs.Common.{◌≡◌, drop}
 use Rattle.dsn_reader.specs.Assembly.{least_in_lists}
 use Rattle.dsn_reader.proofs.assembly.least_in_lists.Given as goal
 

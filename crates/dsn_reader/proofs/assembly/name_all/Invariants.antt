@@ -1,4 +1,4 @@
-use Rattle.std.proofs.Common.{◌≡◌, ◌≤◌, ◌++◌, suc, Some, length, drop}
+use Rattle.std.proofs.Common.{◌≡◌, suc, length, drop}
 use Rattle.dsn_network.specs.Networks.{classed}
 use Rattle.dsn_reader.proofs.assembly.name_all.Given as goal
 

@@ -1,4 +1,4 @@
-use Rattle.std.proofs.Common.{◌≡◌, ◌≤◌, ◌++◌, suc, Some, length, drop}
+use Rattle.std.proofs.Common.{◌≡◌, length, drop}
 use Rattle.dsn_network.specs.Networks.{named_in}
 use Rattle.dsn_reader.proofs.assembly.name_nets.Given as goal
 

@@ -1,5 +1,4 @@
-use Rattle.std.proofs.Common.{◌≡◌, ◌≤◌, ◌++◌, suc, Some, length, drop}
-use Rattle.std.proofs.Common.{ℕ}
+use Rattle.std.proofs.Common.{◌≡◌, ◌++◌, drop}
 use Rattle.dsn_reader.proofs.assembly.names_of.Given as goal
 
 abbrev pub invariant-loop-i : goal.invariant-loop-i

@@ -1,4 +1,4 @@
-use Rattle.std.proofs.Common.{◌≡◌, ◌≤◌, ◌++◌, suc, Some, length, drop}
+use Rattle.std.proofs.Common.{◌≡◌}
 use Rattle.dsn_reader.specs.Assembly.{net_rows}
 use Rattle.dsn_reader.proofs.assembly.net_rows_of.Given as goal
 

@@ -1,4 +1,4 @@
-use Rattle.std.proofs.Common.{◌≡◌, ◌≤◌, ◌++◌, suc, Some, length, drop}
+use Rattle.std.proofs.Common.{◌≡◌, drop}
 use Rattle.dsn_reader.specs.Assembly.{class_rows}
 use Rattle.dsn_reader.proofs.assembly.put_classes.Given as goal
 

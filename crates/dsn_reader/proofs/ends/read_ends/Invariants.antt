@@ -1,4 +1,4 @@
-use Rattle.std.proofs.Common.{◌≡◌, ◌≤◌, ◌++◌, suc, Some, length, drop}
+use Rattle.std.proofs.Common.{◌≡◌, ◌≤◌, length}
 use Rattle.sexp_text.specs.Shows.{forest}
 use Rattle.dsn_lists.specs.Results.{each}
 use Rattle.dsn_reader.specs.Fronts.{IsFront}

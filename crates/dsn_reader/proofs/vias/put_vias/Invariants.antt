@@ -1,4 +1,4 @@
-use Rattle.std.proofs.Common.{◌≡◌, ◌≤◌, ◌++◌, suc, Some, length, drop}
+use Rattle.std.proofs.Common.{◌≡◌, drop}
 use Rattle.dsn_reader.specs.Wirings.{sorted, vias_at}
 use Rattle.dsn_reader.proofs.vias.put_vias.Given as goal
 
