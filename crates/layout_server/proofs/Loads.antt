@@ -87,7 +87,7 @@ unclean_stop (stops.Design e) name design f g has only cause = absurd cause
 unclean_stop stops.Read name design f g has only cause = absurd cause
 unclean_stop stops.Write name design f g has only cause = absurd cause
 unclean_stop (stops.Script k) name design f g has only cause = absurd cause
-unclean_stop stops.Memory name design f g has only cause = absurd cause
+unclean_stop stops.Memory name design f g has only cause = short_of (name ∷ []) f g only
 
 -- ---- both files
 

@@ -18,13 +18,13 @@ HasDesign name d disk = (bytes : List ℕ) × (bytes_of disk.files name ≡ Some
 abbrev pub HasFault : List ℕ → DesignFault → Disk → Type 0
 HasFault name e disk = (bytes : List ℕ) × (bytes_of disk.files name ≡ Some bytes) × IsFirstFault bytes e
 
--- no two loaded items of the design are too near to each other
+-- no two loaded items of the design are too near to each other, under the rules that it starts with
 abbrev pub IsClean : Design → Type 0
-IsClean d = IsCleanBoard d.parts (first_board d.parts).live
+IsClean d = IsCleanBoard d.parts (first_board d.parts).rules (first_board d.parts).live
 
 -- a and b are the least two loaded items of the design that are too near
 abbrev pub AreLeast : Design → ℕ → ℕ → Type 0
-AreLeast d a b = IsLeastPair d.parts (first_board d.parts).live a b
+AreLeast d a b = IsLeastPair d.parts (first_board d.parts).rules (first_board d.parts).live a b
 
 -- the file under the name states this design, and it is clean
 abbrev pub HasClean : List ℕ → Design → Disk → Type 0

@@ -22,9 +22,10 @@ ScriptCause bytes (stops.Script k) = IsBad bytes k
 ScriptCause bytes stops.Memory = Unit {0}
 ScriptCause bytes _ = ⊥
 
--- why a design isn't taken: these two loaded items are the least that are too near
+-- why a design isn't taken: these two loaded items are the least that are too near, or memory ran out
 abbrev pub CleanCause : Design → Stop → Type 0
 CleanCause d (stops.Unclean a b) = AreLeast d a.0 b.0
+CleanCause d stops.Memory = Unit {0}
 CleanCause d _ = ⊥
 
 -- why a clean design was not loaded, and what was asked for

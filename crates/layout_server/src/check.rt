@@ -6,21 +6,26 @@ ghost use Rattle.layout_server.specs.Loads.{CleanCause, DesignStop};
 ghost use Rattle.layout_server.specs.Checks.{Checks, CheckStop, clean_line};
 
 use crate::load::load_design;
-use board_core::clean;
 use board_rules::Design;
+use check_core::first_pair;
+use grid_index::Grid;
 use itoa::Buffer;
 use layout_io::{Bytes, Files, Sink};
 use std::alloc::{AllocError, Global};
 use whole_files::{Stop, put_out};
 
-// Stops where two loaded items are too near.
-fn test_clean(design: &Design) -> Result<(), Stop>
+// Stops where two loaded items are too near, or where there is no memory for the index by which they are found.
+fn test_clean(alloc: Global, design: &Design) -> Result<(), Stop>
     ensures ok { OnOk result (IsClean design.now) }
     ensures cause { IfErr result (CleanCause design.now) }
 {
-    match clean(design) {
-        None => Ok(()),
-        Some((a, b)) => Err(Stop::Unclean { a, b }),
+    let Ok(grid) = Grid::new(alloc) else {
+        return Err(Stop::Memory);
+    };
+    match first_pair(design, grid) {
+        Err(_) => Err(Stop::Memory),
+        Ok(None) => Ok(()),
+        Ok(Some((a, b))) => Err(Stop::Unclean { a, b }),
     }
 }
 
@@ -33,7 +38,7 @@ pub fn load_clean<F: Files>(alloc: Global, files: &mut F, name: &str) -> Result<
     ensures err { IfErr result (DesignStop name.now (F.told files.old) (F.told files.new)) }
 {
     let design = load_design(alloc, files, name)?;
-    test_clean(&design)?;
+    test_clean(alloc, &design)?;
     Ok(design)
 }
 

@@ -1,6 +1,7 @@
 -- Steps that may come where they stand, and one step more.
-use Rattle.std.proofs.Common.{◌≡◌, ℕ, List, [], ◌∷◌, ◌++◌, refl, sym, subst, ◌∙◌, append_assoc}
-use Rattle.std.specs.Prelude.{Bool, true, false, ◌||◌}
+use Rattle.std.proofs.Common.{◌≡◌, ℕ, List, [], ◌∷◌, ◌++◌, sym, ap, subst, ◌∙◌, append_assoc}
+use Rattle.std.specs.Prelude.{Bool, ◌||◌}
+use Rattle.std.proofs.Math.Bool.{or-false}
 use Rattle.std.proofs.lemmas.List.{append-nil}
 use Rattle.std.proofs.lemmas.List.Folds.{list_any-append}
 use Rattle.std.specs.List.{AllByRecursion}
@@ -21,10 +22,6 @@ pub due_formed : (before rest : List ScriptStep) → AreDue before rest → AllB
 due_formed before [] all = tt
 due_formed before (s ∷ rest) all = (all.0.0, due_formed (before ++ s ∷ []) rest all.1)
 
-or_none : (a b : Bool) → (a || (b || false)) ≡ (a || b)
-or_none a true = refl
-or_none a false = refl
-
 -- who has left behind one step more
 pub gone_more : (client : ℕ) (steps : List ScriptStep) (s : ScriptStep) → has_gone client (steps ++ s ∷ []) ≡ (has_gone client steps || is_leave_by client s)
-gone_more client steps s = list_any-append (is_leave_by client) steps (s ∷ []) ∙ or_none (has_gone client steps) (is_leave_by client s)
+gone_more client steps s = list_any-append (is_leave_by client) steps (s ∷ []) ∙ ap (λ (b : Bool). has_gone client steps || b) (or-false (is_leave_by client s))

@@ -1,7 +1,8 @@
 -- The journal, the weight and the board behind one act more.
-use Rattle.std.proofs.Common.{◌≡◌, ◌⊎◌, ℕ, zero, suc, ◌+◌, ◌*◌, ◌<◌, ◌≤◌, ◌^◌, List, [], ◌∷◌, ◌++◌, length, map, Some, None, refl, sym, ap, subst, ◌∙◌, append_assoc, arith, length-append, inl, inr}
-use Rattle.std.specs.Prelude.{Bool, false, IsTrue}
+use Rattle.std.proofs.Common.{◌≡◌, ◌⊎◌, ℕ, ◌+◌, ◌*◌, ◌<◌, ◌≤◌, ◌^◌, List, [], ◌∷◌, ◌++◌, length, map, Some, None, refl, sym, ap, subst, ◌∙◌, append_assoc, arith, length-append, inl, inr}
+use Rattle.std.specs.Prelude.{Option, Bool, false, IsTrue}
 use Rattle.std.specs.List.{sum, sum_by}
+use Rattle.std.proofs.lemmas.Bool.{cases_lt}
 use Rattle.std.proofs.lemmas.List.{append-nil}
 use Rattle.std.proofs.lemmas.List.Sums.{sum-map, sum_by-cons}
 use Rattle.row_lists.specs.Limits.{weight_limit, client_limit}
@@ -9,7 +10,7 @@ use Rattle.board_items.specs.declared.items.Item.{Item}
 use Rattle.board_items.specs.declared.requests.Add.{Add}
 use Rattle.board_items.specs.declared.requests.Add.TheVariants as adds
 use Rattle.board_items.specs.declared.requests.Request.{Request}
-use Rattle.board_items.specs.declared.requests.Request.TheVariants.{Edit, Reserve, Release, Fence, Unfence, Entitle}
+use Rattle.board_items.specs.declared.requests.Request.TheVariants.{Edit, Reserve, Release, Fence, Unfence, Entitle, Rule}
 use Rattle.board_items.specs.declared.history.Act.{Act}
 use Rattle.board_items.specs.declared.history.Act.TheVariants.{Ask, Leave}
 use Rattle.board_items.specs.declared.history.Call.{Call}
@@ -78,10 +79,11 @@ heavier b client (Ask (Release id)) = record { next = omega arith; count = refl;
 heavier b client (Ask (Fence layers area clients)) = record { next = omega arith; count = refl; weighty = omega arith }
 heavier b client (Ask (Unfence fence)) = record { next = omega arith; count = refl; weighty = omega arith }
 heavier b client (Ask (Entitle fence other)) = record { next = omega arith; count = refl; weighty = omega arith }
+heavier b client (Ask (Rule class clearance)) = record { next = omega arith; count = refl; weighty = omega arith }
 heavier b client Leave = record { next = omega arith; count = refl; weighty = omega arith }
 
 weighs : (act : Act) → 2 ≤ weight_of act
-weighs act = (heavier (record { live = []; next_id = 0; held = []; fences = []; last = 0; count = 0 }) 0 act).weighty
+weighs act = (heavier (record { live = []; next_id = 0; held = []; fences = []; last = 0; rules = []; count = 0 }) 0 act).weighty
 
 taken_weighs : (act : Act) → 4 * taken_by act ≤ weight_of act
 taken_weighs (Ask (Edit deletes adds)) = omega (arith, adds_weigh adds)
@@ -90,6 +92,7 @@ taken_weighs (Ask (Release id)) = omega arith
 taken_weighs (Ask (Fence layers area clients)) = omega arith
 taken_weighs (Ask (Unfence fence)) = omega arith
 taken_weighs (Ask (Entitle fence other)) = omega arith
+taken_weighs (Ask (Rule class clearance)) = omega arith
 taken_weighs Leave = omega arith
 
 -- within the weight of a history there are few numbers and few entries
@@ -101,18 +104,19 @@ light_journal d m act is light = omega (arith, is.weighty, light)
 
 -- ---- boards
 
-abbrev board_of : List (ℕ × Item) → ℕ → List (ℕ × ℕ) → List (ℕ × Boundary) → ℕ → ℕ → Board
-board_of live next held fences last count = record { live = live; next_id = next; held = held; fences = fences; last = last; count = count }
+abbrev board_of : List (ℕ × Item) → ℕ → List (ℕ × ℕ) → List (ℕ × Boundary) → ℕ → List (Option ℕ) → ℕ → Board
+board_of live next held fences last rules count = record { live = live; next_id = next; held = held; fences = fences; last = last; rules = rules; count = count }
 
 -- boards that agree in all are one
 pub same_board : (b c : Board) → IsSameBoard b c → b ≡ c
 same_board b c same =
-    ap (λ (x : List (ℕ × Item)). board_of x b.next_id b.held b.fences b.last b.count) same.live
-    ∙ ap (λ (x : ℕ). board_of c.live x b.held b.fences b.last b.count) same.next_id
-    ∙ ap (λ (x : List (ℕ × ℕ)). board_of c.live c.next_id x b.fences b.last b.count) same.held
-    ∙ ap (λ (x : List (ℕ × Boundary)). board_of c.live c.next_id c.held x b.last b.count) same.fences
-    ∙ ap (λ (x : ℕ). board_of c.live c.next_id c.held c.fences x b.count) same.last
-    ∙ ap (λ (x : ℕ). board_of c.live c.next_id c.held c.fences c.last x) same.count
+    ap (λ (x : List (ℕ × Item)). board_of x b.next_id b.held b.fences b.last b.rules b.count) same.live
+    ∙ ap (λ (x : ℕ). board_of c.live x b.held b.fences b.last b.rules b.count) same.next_id
+    ∙ ap (λ (x : List (ℕ × ℕ)). board_of c.live c.next_id x b.fences b.last b.rules b.count) same.held
+    ∙ ap (λ (x : List (ℕ × Boundary)). board_of c.live c.next_id c.held x b.last b.rules b.count) same.fences
+    ∙ ap (λ (x : ℕ). board_of c.live c.next_id c.held c.fences x b.rules b.count) same.last
+    ∙ ap (λ (x : List (Option ℕ)). board_of c.live c.next_id c.held c.fences c.last x b.count) same.rules
+    ∙ ap (λ (x : ℕ). board_of c.live c.next_id c.held c.fences c.last c.rules x) same.count
 
 -- an act at the journal's end
 pub taken : (d : Design) (m new : SerialMaster) (client number : ℕ) (act : Act) → IsAtJournal d m → number ≡ length m.journal + 1 → IsSameBoard new.board (after m.board client act) → IsBoardOf d.parts new.board
@@ -166,22 +170,13 @@ one_entry client act (No why) = omega arith
 one_entry client act Full = omega arith
 one_entry client act (Left number) = omega arith
 
-one_less : (m n : ℕ) → (m < n) ⊎ (n ≤ m) → (suc m < suc n) ⊎ (suc n ≤ suc m)
-one_less m n (inl less) = inl (omega (arith, less))
-one_less m n (inr more) = inr (omega (arith, more))
-
-less_or_not : (m n : ℕ) → (m < n) ⊎ (n ≤ m)
-less_or_not m zero = inr (omega arith)
-less_or_not zero (suc n) = inl (omega arith)
-less_or_not (suc m) (suc n) = one_less m n (less_or_not m n)
-
 room_if : (limit n : ℕ) → (limit < n → ⊥) → (limit < n) ⊎ (n ≤ limit) → n ≤ limit
 room_if limit n room (inl over) = absurd (room over)
 room_if limit n room (inr under) = under
 
 room_left : (old new : SerialMaster) (weight : ℕ) → (weight_limit < old.weight + weight + 2 * old.present → ⊥) → new.weight ≡ old.weight + weight → new.present ≡ old.present → new.weight + 2 * new.present ≤ weight_limit
 room_left old new weight room heavy stay =
-    let under = room_if weight_limit (old.weight + weight + 2 * old.present) room (less_or_not weight_limit (old.weight + weight + 2 * old.present)) in
+    let under = room_if weight_limit (old.weight + weight + 2 * old.present) room (cases_lt weight_limit (old.weight + weight + 2 * old.present)) in
     omega (arith, under, heavy, stay)
 
 -- a request that has room, as a call more

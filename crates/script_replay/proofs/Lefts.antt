@@ -1,39 +1,28 @@
 -- Who has left, and how many are present, behind one call more.
 use Rattle.std.proofs.Common.{◌≡◌, ◌≢◌, ◌⊎◌, ℕ, zero, suc, ◌+◌, ◌<◌, ◌≤◌, List, [], ◌∷◌, ◌++◌, refl, sym, ap, ◌∙◌, arith, inl, inr}
 use Rattle.std.specs.Prelude.{Bool, true, false, ◌||◌, ◌&&◌, ◌==◌, if◌then◌else◌}
+use Rattle.std.proofs.Math.Bool.{or-false, and-false}
 use Rattle.std.proofs.lemmas.Bool.{eq-eqb, ne_eqb}
 use Rattle.std.proofs.lemmas.List.Folds.{list_any-append}
 use Rattle.board_items.specs.declared.history.Call.{Call}
 use Rattle.board_core.specs.Histories.{is_leave, has_left, present_of}
-
-or_none : (a b : Bool) → (a || (b || false)) ≡ (a || b)
-or_none a true = refl
-or_none a false = refl
 
 -- the call is this client's leave
 abbrev leaves : ℕ → Call → Bool
 leaves client c = (c.client == client) && is_leave c.act
 
 pub left_more : (client : ℕ) (calls : List Call) (c : Call) → has_left client (calls ++ c ∷ []) ≡ (has_left client calls || leaves client c)
-left_more client calls c = list_any-append (leaves client) calls (c ∷ []) ∙ or_none (has_left client calls) (leaves client c)
-
-and_false : (b : Bool) → (b && false) ≡ false
-and_false true = refl
-and_false false = refl
-
-or_false : (b : Bool) → (b || false) ≡ b
-or_false true = refl
-or_false false = refl
+left_more client calls c = list_any-append (leaves client) calls (c ∷ []) ∙ ap (λ (b : Bool). has_left client calls || b) (or-false (leaves client c))
 
 -- a request is no leave
 pub left_same : (client : ℕ) (calls : List Call) (c : Call) → is_leave c.act ≡ false → has_left client (calls ++ c ∷ []) ≡ has_left client calls
 left_same client calls c asks =
-    left_more client calls c ∙ ap (λ (b : Bool). has_left client calls || ((c.client == client) && b)) asks ∙ ap (λ (b : Bool). has_left client calls || b) (and_false (c.client == client)) ∙ or_false (has_left client calls)
+    left_more client calls c ∙ ap (λ (b : Bool). has_left client calls || ((c.client == client) && b)) asks ∙ ap (λ (b : Bool). has_left client calls || b) (and-false (c.client == client)) ∙ or-false (has_left client calls)
 
 -- a leave is that of its client alone
 pub left_other : (client : ℕ) (calls : List Call) (c : Call) → c.client ≢ client → has_left client (calls ++ c ∷ []) ≡ has_left client calls
 left_other client calls c other =
-    left_more client calls c ∙ ap (λ (b : Bool). has_left client calls || (b && is_leave c.act)) (ne_eqb c.client client other) ∙ or_false (has_left client calls)
+    left_more client calls c ∙ ap (λ (b : Bool). has_left client calls || (b && is_leave c.act)) (ne_eqb c.client client other) ∙ or-false (has_left client calls)
 
 abbrev counted : Bool → ℕ
 counted left = if left then 0 else 1

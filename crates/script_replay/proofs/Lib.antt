@@ -3,6 +3,7 @@ pub mod Dues
 pub mod Journals
 pub mod Lefts
 pub mod Once
+pub mod OneAnswer
 pub mod Replayed
 pub mod Serving
 pub mod Steps

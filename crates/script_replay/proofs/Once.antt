@@ -87,6 +87,7 @@ once_after b client (acts.Ask (requests.Release id)) once = once_filter _ b.held
 once_after b client (acts.Ask (requests.Fence layers area clients)) once = once
 once_after b client (acts.Ask (requests.Unfence fence)) once = once
 once_after b client (acts.Ask (requests.Entitle fence other)) once = once
+once_after b client (acts.Ask (requests.Rule class clearance)) once = once
 once_after b client acts.Leave once = once_filter _ b.held once
 
 once_folded : (b : Board) (journal : List Entry) → IsOnce b.held → IsOnce (folded b journal).held

@@ -23,9 +23,9 @@ Shield = (p : Parts) (clients limit : ℕ) (calls : List Call) → IsLegal p cli
 
 -- the law of clean boards
 abbrev pub Clean : Type 0
-Clean = (p : Parts) (clients limit : ℕ) (calls : List Call) (k : ℕ) → IsCleanBoard p (first_board p).live → IsLegal p clients limit calls → IsCleanBoard p (board_at p (journal_of calls) k).live
+Clean = (p : Parts) (clients limit : ℕ) (calls : List Call) (k : ℕ) → IsCleanBoard p (first_board p).rules (first_board p).live → IsLegal p clients limit calls → IsCleanBoard p (board_at p (journal_of calls) k).rules (board_at p (journal_of calls) k).live
 
-pub is_run : (d : Design) (steps : List ScriptStep) (r : Run) (output text : List ℕ) → Shield → Clean → IsCleanBoard d.parts (first_board d.parts).live → Serves d [] (events_of_steps steps) r.answers r.master.history → IsSerialMaster d r.master
+pub is_run : (d : Design) (steps : List ScriptStep) (r : Run) (output text : List ℕ) → Shield → Clean → IsCleanBoard d.parts (first_board d.parts).rules (first_board d.parts).live → Serves d [] (events_of_steps steps) r.answers r.master.history → IsSerialMaster d r.master
     → output ≡ output_of r.answers r.master.journal → text ≡ session_of d.parts r.master.board.live → IsRunOf d steps output text
 is_run d steps r output text shield clean first run master output_is text_is =
     let legal : IsLegal d.parts client_limit weight_limit r.master.history = serves_legal d [] (events_of_steps steps) r.answers r.master.history tt run in

@@ -1,6 +1,7 @@
 -- Answers to events, one step more, and what holds of the history behind them.
 use Rattle.std.proofs.Common.{◌≡◌, ℕ, suc, ◌+◌, ◌<◌, List, [], ◌∷◌, ◌++◌, length, get_or, drop, drop-cons, add-one, refl, sym, ap, subst, ◌∙◌, append_assoc, inl, inr}
-use Rattle.std.specs.Prelude.{Bool, true, false, ◌||◌, ◌&&◌, ◌==◌}
+use Rattle.std.specs.Prelude.{Bool, false, ◌||◌, ◌==◌}
+use Rattle.std.proofs.Math.Bool.{or-false, and-true}
 use Rattle.std.proofs.lemmas.List.{append-nil}
 use Rattle.row_lists.specs.Limits.{client_limit, weight_limit}
 use Rattle.board_items.specs.declared.requests.Request.{Request}
@@ -48,14 +49,6 @@ serves_first d old mid last (steps.Leave client) rest a more one others =
 abbrev pub AreSameLeft : List Call → List ScriptStep → Type 0
 AreSameLeft calls before = (client : ℕ) → has_left client calls ≡ has_gone client before
 
-and_true : (b : Bool) → (b && true) ≡ b
-and_true true = refl
-and_true false = refl
-
-or_false : (b : Bool) → (b || false) ≡ b
-or_false true = refl
-or_false false = refl
-
 left_asked : (p : Parts) (old mid new : List Call) (client : ℕ) (request : Request) (reply : Reply) (n : ℕ) → IsReplied p old (record { client = client; act = Ask request }) reply mid → new ≡ mid → has_left n new ≡ has_left n old
 left_asked p old mid new client request reply n (inl full) e = ap (has_left n) (e ∙ full.2)
 left_asked p old mid new client request reply n (inr call) e = ap (has_left n) (e ∙ call.1) ∙ left_same n old (call_of old (record { client = client; act = Ask request }) reply) refl
@@ -63,11 +56,11 @@ left_asked p old mid new client request reply n (inr call) e = ap (has_left n) (
 left_leaving : (p : Parts) (old mid new : List Call) (client : ℕ) (reply : Reply) (n : ℕ) → IsReplied p old (record { client = client; act = Leave }) reply mid → new ≡ mid → has_left n new ≡ (has_left n old || (client == n))
 left_leaving p old mid new client reply n (inl full) e = absurd full.1
 left_leaving p old mid new client reply n (inr call) e =
-    ap (has_left n) (e ∙ call.1) ∙ left_more n old (call_of old (record { client = client; act = Leave }) reply) ∙ ap (λ (b : Bool). has_left n old || b) (and_true (client == n))
+    ap (has_left n) (e ∙ call.1) ∙ left_more n old (call_of old (record { client = client; act = Leave }) reply) ∙ ap (λ (b : Bool). has_left n old || b) (and-true (client == n))
 
 pub left_step : (d : Design) (old new : List Call) (s : ScriptStep) (a : Answered) (before : List ScriptStep) → Serves d old (events_of s) (a ∷ []) new → AreSameLeft old before → AreSameLeft new (before ++ s ∷ [])
 left_step d old new (steps.Do client request) a before one same n =
-    left_asked d.parts old one.1 new client request a.reply n one.2 one.3 ∙ same n ∙ sym (or_false (has_gone n before)) ∙ sym (gone_more n before (steps.Do client request))
+    left_asked d.parts old one.1 new client request a.reply n one.2 one.3 ∙ same n ∙ sym (or-false (has_gone n before)) ∙ sym (gone_more n before (steps.Do client request))
 left_step d old new (steps.Leave client) a before one same n =
     left_leaving d.parts old one.1 new client a.reply n one.2 one.3 ∙ ap (λ (b : Bool). b || (client == n)) (same n) ∙ sym (gone_more n before (steps.Leave client))
 

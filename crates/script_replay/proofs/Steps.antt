@@ -1,6 +1,7 @@
 -- The first line of a script, and the lines so far.
 use Rattle.std.proofs.Common.{◌≡◌, ◌≢◌, ◌⊎◌, ℕ, zero, suc, ◌+◌, ◌<◌, ◌≤◌, List, [], ◌∷◌, ◌++◌, length, refl, sym, ap, subst, ◌∙◌, append_assoc, arith, length-append, inl, inr}
 use Rattle.std.specs.Prelude.{Bool, true, false, ◌||◌}
+use Rattle.std.proofs.lemmas.Bool.{cases_lt}
 use Rattle.std.proofs.lemmas.List.{append-nil}
 use Rattle.std.specs.List.{AllByRecursion, flat_map}
 use Rattle.session_wire.specs.declared.steps.ScriptStep.{ScriptStep}
@@ -107,22 +108,13 @@ not_less a b r s p q e bad less =
     let (t, more, others, parts, spelled) = front_less a b r s (due_formed [] a p) (due_formed [] b q) e less in
     bad t more (due_behind [] a t others (subst (AreDue []) parts q)) spelled
 
-one_is_less : (m n : ℕ) → (m < n) ⊎ (n ≤ m) → (suc m < suc n) ⊎ (suc n ≤ suc m)
-one_is_less m n (inl less) = inl (omega (arith, less))
-one_is_less m n (inr more) = inr (omega (arith, more))
-
-less_or_not : (m n : ℕ) → (m < n) ⊎ (n ≤ m)
-less_or_not m zero = inr (omega arith)
-less_or_not zero (suc n) = inl (omega arith)
-less_or_not (suc m) (suc n) = one_is_less m n (less_or_not m n)
-
 same_of : (m n : ℕ) → (m < n → ⊥) → (n < m → ⊥) → (m < n) ⊎ (n ≤ m) → (n < m) ⊎ (m ≤ n) → m + 1 ≡ n + 1
 same_of m n p q (inl less) k = absurd (p less)
 same_of m n p q (inr most) (inl less) = absurd (q less)
 same_of m n p q (inr most) (inr least) = omega (arith, most, least)
 
 same_length : (m n : ℕ) → (m < n → ⊥) → (n < m → ⊥) → m + 1 ≡ n + 1
-same_length m n p q = same_of m n p q (less_or_not m n) (less_or_not n m)
+same_length m n p q = same_of m n p q (cases_lt m n) (cases_lt n m)
 
 two_bad : (text : List ℕ) (j k : ℕ) (a : IsFirstBad text j) (b : IsFirstBad text k) → (length a.before < length b.before → ⊥) → (length b.before < length a.before → ⊥) → j ≡ k
 two_bad text j k a b p q = a.number ∙ same_length (length a.before) (length b.before) p q ∙ sym b.number
@@ -161,7 +153,7 @@ neither_of text no_script no_bad (inr short) = neither_behind (length text) text
 
 -- no text is neither a script nor one with a bad line
 pub not_neither : (text : List ℕ) → ((steps : List ScriptStep) → IsScript text steps → ⊥) → ((k : ℕ) → IsBad text k → ⊥) → ⊥
-not_neither text no_script no_bad = neither_of text no_script no_bad (less_or_not text_limit_bytes (length text))
+not_neither text no_script no_bad = neither_of text no_script no_bad (cases_lt text_limit_bytes (length text))
 
 -- ---- a line of a client who has left
 

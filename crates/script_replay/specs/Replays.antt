@@ -47,9 +47,9 @@ Serves d old (event ∷ events) (a ∷ answers) new =
 Serves d old [] (a ∷ answers) new = ⊥
 Serves d old (event ∷ events) [] new = ⊥
 
--- no two items are too near on any board of a journal
+-- no two items are too near on any board of a journal, under that board's own rules
 abbrev pub AreClean : Parts → List Entry → Type 0
-AreClean p journal = (k : ℕ) → IsCleanBoard p (board_at p journal k).live
+AreClean p journal = (k : ℕ) → IsCleanBoard p (board_at p journal k).rules (board_at p journal k).live
 
 -- the client and its reply
 abbrev pub answer_line : Answered → List ℕ
@@ -64,7 +64,7 @@ abbrev pub output_of : List Answered → List Entry → List ℕ
 output_of answers journal = flat_map answer_line answers ++ (count_line (length journal) ++ flat_map entry_line journal)
 
 -- the output and the session text of the steps, from the empty history on; each call of the history is that of one master,
--- what lies in a boundary is changed by entitled clients alone, and every board is clean
+-- what lies in a boundary is changed by entitled clients alone, and every board is clean under its own rules
 pub record IsRunOf (d : Design) (steps : List ScriptStep) (output session : List ℕ) : Type 0 where
   pub answers : List Answered
   pub history : List Call

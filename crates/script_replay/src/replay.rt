@@ -23,7 +23,7 @@ pub fn replay_steps(
     script: &ScriptSteps,
 ) -> Result<Texts, AllocError>
     requires due { AreDue [] script.now }
-    requires clean { IsCleanBoard design.now.parts (first_board design.now.parts).live }
+    requires clean { IsCleanBoard design.now.parts (first_board design.now.parts).rules (first_board design.now.parts).live }
     ensures { IfOk result (λ texts. IsRunOf design.now script.now texts.output texts.session) }
 {
     let replayed = answer_all::<Brand>(alloc, design, script, Blank::new(1))?;

@@ -1,6 +1,7 @@
 -- What the designs of the tests have. Numbers are nanometres.
 use Rattle.std.specs.Prelude.{ℕ, ◌≡◌, ◌≤◌, List, [], ◌∷◌, length, slice_get, pos}
 use Rattle.std.specs.List.{AllByRecursion}
+use Rattle.row_lists.specs.Limits.{width_limit_nm}
 use Rattle.seg_geometry.specs.Points.{IsInRange}
 use Rattle.seg_geometry.specs.declared.points.Pt.{Pt}
 use Rattle.area_geometry.specs.Copper.{Copper}
@@ -15,7 +16,7 @@ use Rattle.board_rules.specs.Designs.{IsFitItem, HasEnough}
 pub record IsNear (c : Copper) : Type 0 where
   pub points : AllByRecursion IsInRange c.points
   pub enough : HasEnough c
-  pub width : c.width ≤ 100000000
+  pub width : c.width ≤ width_limit_nm
 
 -- a point right of the origin and above it
 abbrev pub sample_pt : ℕ → ℕ → Pt

@@ -12,7 +12,9 @@ use crate::SesPieces;
 use area_geometry::{Core, Shape, Shapes};
 use board_core::Board;
 use board_items::{Item, Items, Padstack, Stacks};
-use board_rules::{Areas, ClassRow, ClassRows, Design, Names, NetRow, NetRows, Parts, StatedRows};
+use board_rules::{
+    Areas, ClassRow, ClassRows, Design, Names, NetRow, NetRows, PairRows, Parts, StatedRows,
+};
 use layout_io::{Bytes, Row};
 use seg_geometry::{Points, Pt};
 use std::alloc::{AllocError, Global};
@@ -188,6 +190,7 @@ fn parts(alloc: Global, name: &[u8], items: Items) -> Result<Parts, AllocError>
         stacks: three_stacks(alloc)?,
         nets: three_nets(alloc)?,
         classes: one_class(alloc)?,
+        pairs: PairRows::new(alloc),
         outline: Areas::new(alloc),
         items,
     })
