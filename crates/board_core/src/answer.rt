@@ -1,6 +1,7 @@
 //! What a request is answered, by testing every pair.
 ghost use Rattle.std.specs.Prelude.{◌≡◌, ◌+◌, ◌≤◌, IfNone, length, ℕ};
 ghost use Rattle.std.specs.List.{AllByRecursion};
+ghost use Rattle.row_lists.specs.Limits.{add_limit};
 ghost use Rattle.board_items.specs.Formed.{IsFormed};
 ghost use Rattle.board_rules.specs.FitAdds.{IsFitAdd, HasFitAdds};
 ghost use Rattle.board_core.specs.Boards.{IsBoardOf};
@@ -30,7 +31,7 @@ fn board_why<L: Ledger>(
     steps: &mut Steps<L>,
 ) -> Option<Why>
     requires board { IsBoardOf design.now.parts board.now }
-    requires few { length adds.now ≤ 64 }
+    requires few { length adds.now ≤ add_limit }
     requires fit { AllByRecursion (IsFitAdd design.now.parts) adds.now }
     ensures reason { IsBoardReason design.now.parts board.now client deletes.now adds.now result }
     ensures cost { steps.new ≤ steps.old + board_most design.now.parts board.now deletes.now adds.now result }

@@ -1,6 +1,7 @@
 //! The first reason against adds by themselves.
 ghost use Rattle.std.specs.Prelude.{◌≤◌, ◌+◌, length};
 ghost use Rattle.std.specs.List.{AllByRecursion};
+ghost use Rattle.row_lists.specs.Limits.{add_limit};
 ghost use Rattle.board_items.specs.Adds.{item_of_add};
 ghost use Rattle.board_items.specs.Formed.{IsFormedAdd};
 ghost use Rattle.board_rules.specs.Reasons.{IsAddReason, IsAddsReason};
@@ -32,7 +33,7 @@ impl Design {
     // The first reason against adds by themselves.
     pub(crate) fn adds_why<L: Ledger>(&self, adds: &[Add], steps: &mut Steps<L>) -> Option<Why>
         requires formed { AllByRecursion IsFormedAdd adds.now }
-        requires few { length adds.now ≤ 64 }
+        requires few { length adds.now ≤ add_limit }
         ensures reason { IsAddsReason self.now.parts 1 adds.now result }
         ensures cost { steps.new ≤ steps.old + adds_most self.now.parts adds.now }
     {

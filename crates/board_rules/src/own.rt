@@ -1,6 +1,7 @@
 //! Adds of one request that are too near to each other.
 ghost use Rattle.std.specs.Prelude.{◌≡◌, ◌≤◌, ◌+◌, length};
 ghost use Rattle.std.specs.List.{AllByRecursion};
+ghost use Rattle.row_lists.specs.Limits.{add_limit};
 ghost use Rattle.board_items.specs.Adds.{item_of_add, item_seen, layer_of_add};
 ghost use Rattle.board_rules.specs.Designs.{IsFitItem};
 ghost use Rattle.board_rules.specs.Reasons.{IsNearReason, IsOwnReason};
@@ -35,7 +36,7 @@ impl Design {
         requires view { IsFitView self.now.parts rules }
         requires fits { IsFitItem self.now.parts (item_seen item) }
         requires others_fit { AllByRecursion (IsFitAdd self.now.parts) others.now }
-        requires few { a + length others.now ≤ 64 }
+        requires few { a + length others.now ≤ add_limit }
         ensures reason { IsNearReason self.now.parts (under rules.entry) a (item_seen item.entry) (a + 1) others.now result }
         ensures cost { steps.new ≤ steps.old + near_most self.now.parts (item_seen item.entry) others.now }
     {
@@ -58,7 +59,7 @@ impl Design {
     ) -> Option<Why>
         requires view { IsFitView self.now.parts rules }
         requires fits { AllByRecursion (IsFitAdd self.now.parts) adds.now }
-        requires few { length adds.now ≤ 64 }
+        requires few { length adds.now ≤ add_limit }
         ensures reason { IsOwnReason self.now.parts (under rules.entry) 1 adds.now result }
         ensures cost { steps.new ≤ steps.old + own_most self.now.parts adds.now }
     {

@@ -1,6 +1,7 @@
 //! Rectangles with sides along the axes: round some points, and whether two meet.
 ghost use Rattle.std.specs.Prelude.{◌≡◌, ◌<◌, ◌≤◌, ◌↔◌, pos, ◌+ℤ◌, ◌-ℤ◌, length, All, IsTrue, unsigned_abs};
 ghost use Rattle.std.specs.Int.{int_min, int_max};
+ghost use Rattle.row_lists.specs.Limits.{coordinate_limit_nm};
 ghost use Rattle.seg_geometry.specs.Points.{IsInRange};
 ghost use Rattle.seg_geometry.specs.Rectangles.{IsLeastGrown, Meets, RangesMeet};
 
@@ -36,7 +37,7 @@ pub fn stretched(r: Rect, p: Pt) -> Rect
 pub fn grown(r: Rect, by: u64) -> Rect
     requires low { IsInRange r.lo }
     requires high { IsInRange r.hi }
-    requires by_small { by ≤ 1000000000 }
+    requires by_small { by ≤ coordinate_limit_nm }
     ensures left { result.lo.x ≡ r.lo.x -ℤ pos by }
     ensures low { result.lo.y ≡ r.lo.y -ℤ pos by }
     ensures right { result.hi.x ≡ r.hi.x +ℤ pos by }
@@ -59,7 +60,7 @@ pub fn grown(r: Rect, by: u64) -> Rect
 pub fn rect_of(points: &[Pt], by: u64) -> Rect
     requires some { 0 < length points.now }
     requires in_range { All IsInRange points.now }
-    requires by_small { by ≤ 1000000000 }
+    requires by_small { by ≤ coordinate_limit_nm }
     ensures { IsLeastGrown result points.now by }
 {
     let mut frame = Rect {
