@@ -3,12 +3,12 @@ use Rattle.std.proofs.Common.{◌≡◌, ◌≢◌, ◌⊎◌, ℕ, List, [], �
 use Rattle.layout_io.specs.Told.{SinkTold, FilesTold}
 use Rattle.board_rules.specs.declared.design.Design.{Design}
 use Rattle.whole_files.specs.Words.{Asked}
-use Rattle.layout_server.specs.Inputs.{HasToldClean}
+use Rattle.board_files.specs.Inputs.{HasToldClean}
 use Rattle.whole_files.specs.Stops.{Stops, Tells, HasCounts, NoFault, status_of}
 use Rattle.layout_server.specs.Checks.{Checks, CheckStop}
 use Rattle.whole_files.specs.declared.stop.Stop.{Stop}
 use Rattle.whole_files.specs.declared.stop.Stop.TheVariants as stops
-use Rattle.layout_server.proofs.Excluded.{told_fault, told_unclean}
+use Rattle.board_files.proofs.Excluded.{told_fault, told_unclean}
 use Rattle.whole_files.proofs.Statuses.{later, rose_later, quiet, not_read, not_written, done_counts, not_zero}
 
 check_counts_of : (stop : Stop) (name : List ℕ) (f g : FilesTold) (o m p : SinkTold) (line : List ℕ) → CheckStop name f g o m stop → Tells line m p → HasCounts (status_of stop) f g o p

@@ -11,7 +11,8 @@ use Rattle.whole_files.specs.Stops.{Stops, Tells, HasCounts, NoFault, status_of}
 use Rattle.layout_server.specs.Headline.{Replays, ReplayStop, HasFailedWrite}
 use Rattle.whole_files.specs.declared.stop.Stop.{Stop}
 use Rattle.whole_files.specs.declared.stop.Stop.TheVariants as stops
-use Rattle.layout_server.proofs.Excluded.{clean_told, told_fault, told_unclean, told_bad}
+use Rattle.board_files.proofs.Excluded.{told_fault, told_unclean}
+use Rattle.layout_server.proofs.Excluded.{clean_told, told_bad}
 use Rattle.whole_files.proofs.Statuses.{later, not_zero, not_read, rose_later, quiet, not_written, done_counts}
 
 -- ---- statuses

@@ -8,10 +8,12 @@ use Rattle.layout_server.specs.Words.{named}
 use Rattle.whole_files.specs.Words.{Asked}
 use Rattle.whole_files.specs.Outside.{SameFiles, OnlyRead, OnlyWrites, WroteFile, WroteSome}
 use Rattle.whole_files.specs.Puts.{IsPut, IsCut}
-use Rattle.layout_server.specs.Inputs.{HasClean, HasSteps}
+use Rattle.board_files.specs.Inputs.{HasClean}
+use Rattle.layout_server.specs.Inputs.{HasSteps}
 use Rattle.script_replay.specs.Replays.{IsRunOf}
 use Rattle.layout_server.specs.Loads.{LoadStop}
-use Rattle.layout_server.specs.Stores.{MakeStop, TextsStop}
+use Rattle.board_files.specs.Stores.{MakeStop}
+use Rattle.layout_server.specs.Stores.{TextsStop}
 use Rattle.layout_server.specs.Headline.{HasSession, HasRun, AsksAll, Replays, CutOutput, CutSession, ReplayStop}
 use Rattle.layout_server.specs.declared.load.Loaded.{Loaded}
 use Rattle.whole_files.specs.declared.stop.Stop.{Stop}

@@ -4,8 +4,8 @@ use Rattle.layout_io.specs.Told.{SinkTold, FilesTold}
 use Rattle.board_rules.specs.declared.design.Design.{Design}
 use Rattle.whole_files.specs.Outside.{OnlyRead, ShortRead}
 use Rattle.whole_files.specs.Puts.{IsPut, IsCut, MetFault, MetShortage}
-use Rattle.layout_server.specs.Inputs.{HasClean}
-use Rattle.layout_server.specs.Loads.{DesignStop}
+use Rattle.board_files.specs.Inputs.{HasClean}
+use Rattle.board_files.specs.Loads.{DesignStop}
 use Rattle.whole_files.specs.declared.stop.Stop.{Stop}
 use Rattle.whole_files.specs.declared.stop.Stop.TheVariants as stops
 

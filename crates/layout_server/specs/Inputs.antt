@@ -2,37 +2,10 @@
 use Rattle.std.specs.Prelude.{◌≡◌, ℕ, List, Option, Some, None}
 use Rattle.layout_io.specs.Told.{Disk, bytes_of}
 use Rattle.board_rules.specs.declared.design.Design.{Design}
-use Rattle.board_core.specs.Boards.{first_board}
-use Rattle.board_core.specs.Clean.{IsCleanBoard, IsLeastPair}
 use Rattle.session_wire.specs.declared.steps.ScriptStep.{ScriptStep}
-use Rattle.dsn_lists.specs.declared.faults.DesignFault.{DesignFault}
-use Rattle.dsn_reader.specs.Design.{IsDesign, IsFirstFault}
+use Rattle.board_files.specs.Inputs.{HasClean}
 use Rattle.layout_server.specs.Words.{Names}
 use Rattle.script_replay.specs.Scripts.{IsScript, IsBad}
-
--- the file under the name states this design
-abbrev pub HasDesign : List ℕ → Design → Disk → Type 0
-HasDesign name d disk = (bytes : List ℕ) × (bytes_of disk.files name ≡ Some bytes) × IsDesign bytes d
-
--- the file under the name has this first fault
-abbrev pub HasFault : List ℕ → DesignFault → Disk → Type 0
-HasFault name e disk = (bytes : List ℕ) × (bytes_of disk.files name ≡ Some bytes) × IsFirstFault bytes e
-
--- no two loaded items of the design are too near to each other, under the rules that it starts with
-abbrev pub IsClean : Design → Type 0
-IsClean d = IsCleanBoard d.parts (first_board d.parts).rules (first_board d.parts).live
-
--- a and b are the least two loaded items of the design that are too near
-abbrev pub AreLeast : Design → ℕ → ℕ → Type 0
-AreLeast d a b = IsLeastPair d.parts (first_board d.parts).rules (first_board d.parts).live a b
-
--- the file under the name states this design, and it is clean
-abbrev pub HasClean : List ℕ → Design → Disk → Type 0
-HasClean name d disk = HasDesign name d disk × IsClean d
-
--- the file under the name states a design that isn't clean, by these two items
-abbrev pub HasUnclean : List ℕ → ℕ → ℕ → Disk → Type 0
-HasUnclean name a b disk = (d : Design) × HasDesign name d disk × AreLeast d a b
 
 -- the file under the name is the lines of these steps
 abbrev pub HasSteps : List ℕ → List ScriptStep → Disk → Type 0
@@ -45,11 +18,6 @@ HasBadLine name k disk = (text : List ℕ) × (bytes_of disk.files name ≡ Some
 -- both files have their readings, and the design is clean
 abbrev pub HasInputs : Names → Design → List ScriptStep → Disk → Type 0
 HasInputs names d steps disk = HasClean names.design d disk × HasSteps names.script steps disk
-
--- the files are told, and the one under the name states this clean design
-abbrev pub HasToldClean : List ℕ → Design → Option Disk → Type 0
-HasToldClean name d None = ⊥
-HasToldClean name d (Some disk) = HasClean name d disk
 
 -- the files are told, and both inputs have these readings
 abbrev pub HasToldInputs : Names → Design → List ScriptStep → Option Disk → Type 0

@@ -1,17 +1,11 @@
 -- What of a run's two texts was stored where the storing stops.
 use Rattle.std.specs.Prelude.{◌≡◌, ◌⊎◌, ℕ, List}
 use Rattle.layout_io.specs.Causes.{Rose}
-use Rattle.layout_io.specs.Told.{Told, SinkTold, FilesTold}
-use Rattle.whole_files.specs.Outside.{SameFiles, WroteSome}
+use Rattle.layout_io.specs.Told.{SinkTold, FilesTold}
+use Rattle.whole_files.specs.Outside.{WroteSome}
 use Rattle.whole_files.specs.Puts.{IsPut, IsCut, MetFault, MetShortage}
 use Rattle.whole_files.specs.declared.stop.Stop.{Stop}
 use Rattle.whole_files.specs.declared.stop.Stop.TheVariants as stops
-
--- why the session file was not made: no file changed
-abbrev pub MakeStop : FilesTold → FilesTold → Stop → Type 0
-MakeStop f g stops.Write = Told f.disk g.disk SameFiles × Rose f.write_faults g.write_faults
-MakeStop f g stops.Memory = Told f.disk g.disk SameFiles × (g.write_faults ≡ f.write_faults)
-MakeStop f g _ = ⊥
 
 -- why the two texts were not stored: the output is cut and the files stay, or it is whole and the session is cut
 abbrev pub TextsStop : List ℕ → List ℕ → ℕ → FilesTold → FilesTold → SinkTold → SinkTold → Stop → Type 0

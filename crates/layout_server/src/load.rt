@@ -1,14 +1,13 @@
 //! The design and the script are read.
 ghost use Rattle.std.specs.Prelude.{◌∷◌, [], List, ℕ, IfOk, OnOk, IfErr, IfSome};
-ghost use Rattle.dsn_reader.specs.Design.{IsDesign};
 ghost use Rattle.whole_files.specs.Outside.{OnlyRead};
 ghost use Rattle.script_replay.specs.Scripts.{IsScript};
-ghost use Rattle.layout_server.specs.Inputs.{HasDesign, HasClean, HasSteps};
-ghost use Rattle.layout_server.specs.Loads.{DesignCause, ScriptCause, DesignStop, ScriptStop, LoadStop, IsLoaded};
+ghost use Rattle.board_files.specs.Inputs.{HasClean};
+ghost use Rattle.layout_server.specs.Inputs.{HasSteps};
+ghost use Rattle.layout_server.specs.Loads.{ScriptCause, ScriptStop, LoadStop, IsLoaded};
 
-use crate::check::load_clean;
+use board_files::load_clean;
 use board_rules::Design;
-use dsn_reader::{ReadWhy, read_design};
 use layout_io::{Bytes, Files};
 use row_lists::TEXT_LIMIT_BYTES;
 use script_replay::{ScriptFault, read_script};
@@ -23,18 +22,6 @@ pub struct Loaded {
     pub steps: ScriptSteps,
 }
 
-// The design that bytes state.
-fn design_of(alloc: Global, bytes: &Bytes) -> Result<Design, Stop>
-    ensures ok { IfOk result (IsDesign bytes.now) }
-    ensures cause { IfErr result (DesignCause bytes.now) }
-{
-    match read_design(alloc, bytes.as_slice()) {
-        Ok(design) => Ok(design),
-        Err(ReadWhy::Fault(fault)) => Err(Stop::Design(fault)),
-        Err(ReadWhy::Memory) => Err(Stop::Memory),
-    }
-}
-
 // The steps that bytes spell.
 fn steps_of(alloc: Global, bytes: &Bytes) -> Result<ScriptSteps, Stop>
     ensures ok { IfOk result (IsScript bytes.now) }
@@ -45,17 +32,6 @@ fn steps_of(alloc: Global, bytes: &Bytes) -> Result<ScriptSteps, Stop>
         Err(ScriptFault::Line(line)) => Err(Stop::Script(line)),
         Err(ScriptFault::Memory) => Err(Stop::Memory),
     }
-}
-
-/// The design of the file under the name.
-#[tactic(auto, using(crate::proofs::Loads::found_design, crate::proofs::Loads::design_stop, crate::proofs::Loads::design_unread))]
-pub fn load_design<F: Files>(alloc: Global, files: &mut F, name: &str) -> Result<Design, Stop>
-    ensures ok { IfOk result (λ design. IfSome (F.told files.old).disk (HasDesign name.now design)) }
-    ensures only { OnOk result (OnlyRead (name.now ∷ []) (F.told files.old) (F.told files.new)) }
-    ensures err { IfErr result (DesignStop name.now (F.told files.old) (F.told files.new)) }
-{
-    let bytes = read_file(alloc, files, name, TEXT_LIMIT_BYTES)?;
-    design_of(alloc, &bytes)
 }
 
 // The steps of the script under the name.

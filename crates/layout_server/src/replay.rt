@@ -4,7 +4,8 @@ ghost use Rattle.layout_server.specs.Words.{named};
 ghost use Rattle.layout_server.specs.Headline.{Replays, ReplayStop};
 
 use crate::load::load;
-use crate::store::{make_file, put_texts};
+use crate::store::put_texts;
+use board_files::make_file;
 use layout_io::{Files, Sink};
 use script_replay::replay_steps;
 use std::alloc::Global;

@@ -1,6 +1,6 @@
 use Rattle.std.proofs.Common.{◌≡◌, length}
 use Rattle.whole_files.proofs.Files.{Gave}
-use Rattle.layout_server.proofs.store.put_pieces.Given as goal
+use Rattle.board_files.proofs.store.put_session.Given as goal
 
 -- The file was given what of the text isn't left.
 abbrev pub invariant-pieces : goal.invariant-pieces

@@ -1,7 +1,7 @@
 use Rattle.std.proofs.Common.{◌≡◌, ◌++◌, ◌∙◌, take}
 use Rattle.std.proofs.lemmas.Result.{err_from_is_err_and}
 use Rattle.whole_files.proofs.Files.{gave_more, part_stops, cut_piece}
-use Rattle.layout_server.proofs.store.put_pieces.Goals as goal
+use Rattle.board_files.proofs.store.put_session.Goals as goal
 
 pub pieces-preserved : goal.pieces-preserved
 pieces-preserved g c =
