@@ -1,6 +1,6 @@
 -- Where `check` stops.
 use Rattle.std.proofs.Common.{◌≡◌, ℕ, List, [], ◌∷◌, Result, Ok, Err, refl, subst, inl, inr}
-use Rattle.std.specs.Prelude.{IfSome, OnOk}
+use Rattle.std.specs.Prelude.{IfSome, IfErr, OnOk}
 use Rattle.layout_io.specs.Told.{SinkTold, FilesTold}
 use Rattle.board_rules.specs.declared.design.Design.{Design}
 use Rattle.whole_files.specs.Outside.{OnlyRead}
@@ -38,3 +38,7 @@ put_stops (stops.Unclean x y) name d f g o p has only h = absurd h
 pub checks_if : (r : Result (Unit {0}) Stop) (name : List ℕ) (d : Design) (f g : FilesTold) (o p : SinkTold) (text : List ℕ) → IfSome f.disk (HasClean name d) → OnlyRead (name ∷ []) f g → text ≡ line_of d → OnOk r (IsPut text o p) → OnOk r (Checks name f g o p)
 checks_if (Ok u) name d f g o p text has only is put = record { design = d; has = has; out = subst (λ (t : List ℕ). IsPut t o p) is put; reads = only }
 checks_if (Err e) name d f g o p text has only is put = tt
+
+pub cut_if : (r : Result (Unit {0}) Stop) (name : List ℕ) (d : Design) (f g : FilesTold) (o p : SinkTold) (text : List ℕ) → IfSome f.disk (HasClean name d) → OnlyRead (name ∷ []) f g → text ≡ line_of d → IfErr r (PutStop text o p) → IfErr r (CheckStop name f g o p)
+cut_if (Ok u) name d f g o p text has only is put = tt
+cut_if (Err stop) name d f g o p text has only is put = put_stops stop name d f g o p has only (subst (λ (t : List ℕ). PutStop t o p stop) is put)

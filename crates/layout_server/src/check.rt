@@ -21,7 +21,7 @@ fn clean_text(alloc: Global, count: usize) -> Result<Bytes, AllocError>
 }
 
 /// Reads a design, and tells how many loaded items it has where no two of them are too near.
-#[tactic(auto, using(crate::proofs::Checked::load_stops, crate::proofs::Checked::put_stops))]
+#[tactic(auto, using(crate::proofs::Checked::load_stops))]
 pub fn check<F: Files, O: Sink>(
     alloc: Global,
     files: &mut F,
