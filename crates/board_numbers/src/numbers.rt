@@ -52,5 +52,8 @@ pub fn numbers_of(alloc: Global, bytes: &[u8]) -> Result<Bytes, ReadWhy>
     let Ok(origins) = origins_in(alloc, bytes) else {
         return Err(ReadWhy::Memory);
     };
-    Ok(numbers_text(alloc, design.parts(), &origins)?)
+    let Ok(text) = numbers_text(alloc, design.parts(), &origins) else {
+        return Err(ReadWhy::Memory);
+    };
+    Ok(text)
 }
