@@ -59,10 +59,10 @@ def framed(count, frames):
 
 
 def diagonals(count, points):
-    """Parallel wires from corner to corner, 0.7 mm from each other, each by so many points."""
+    """Parallel wires from corner to corner, 0.018 mm from each other, each by so many points."""
     for i in range(count):
-        steps = [(k * 400000 // (points - 1) + i * 1000, k * 400000 // (points - 1)) for k in range(points)]
-        yield path(1, 200, steps, i % 20000)
+        steps = [(k * 400000 // (points - 1) + i * 25, k * 400000 // (points - 1)) for k in range(points)]
+        yield path(1, 2, steps, i % 20000)
 
 
 def crossed(count, across):
@@ -108,9 +108,9 @@ BOARDS = (
     ("200,000 wires in a corner", 200000, wires_of(lambda: corner(200000), (1, 10))),
     ("100 frames as large as the board, 200,000 in all", 200000, wires_of(lambda: framed(200000, 100))),
     ("100 diagonals over 100,000 wires", 100000, wires_of(lambda: crossed(100000, 100))),
-    ("2,000 diagonals of 2 points", 2000, wires_of(lambda: diagonals(2000, 2))),
-    ("2,000 diagonals of 20 points", 2000, wires_of(lambda: diagonals(2000, 20))),
-    ("20,000 diagonals of 2 points", 20000, wires_of(lambda: diagonals(20000, 2))),
+    ("2,000 diagonals of 2 points", 2000, wires_of(lambda: diagonals(2000, 2), (1, 10))),
+    ("2,000 diagonals of 20 points", 2000, wires_of(lambda: diagonals(2000, 20), (1, 10))),
+    ("10,000 diagonals of 2 points", 10000, wires_of(lambda: diagonals(10000, 2), (1, 10))),
 )
 
 
