@@ -2,9 +2,13 @@
 #![tactic(auto)]
 
 #[cfg(test)]
+mod designs;
+#[cfg(test)]
 mod lists;
 #[cfg(test)]
 mod numbers;
+#[cfg(test)]
+mod sections;
 #[cfg(test)]
 mod shapes;
 #[cfg(test)]
