@@ -1,5 +1,5 @@
 //! The board after some entries.
-ghost use Rattle.std.specs.Prelude.{◌≡◌, ◌+◌, ◌<◌, ◌≤◌, ◌^◌, ℕ, List, IfOk, OnOk, OnErr, IfSome, IfNone, slice_get, Some, length};
+ghost use Rattle.std.specs.Prelude.{◌≡◌, ◌+◌, ◌<◌, ◌≤◌, ◌^◌, ℕ, List, true, is_ok, IfOk, OnOk, OnErr, IfSome, IfNone, slice_get, Some, length};
 ghost use Rattle.row_lists.specs.Limits.{width_limit_nm};
 ghost use Rattle.board_items.specs.declared.items.Item.{Item};
 ghost use Rattle.board_items.specs.declared.history.Entry.{Entry};
@@ -8,6 +8,7 @@ ghost use Rattle.board_rules.specs.Rules.{under, IsFitView};
 ghost use Rattle.number_slots.specs.Slots.{IsAt, IsThere, IsRisingFrom};
 ghost use Rattle.board_items.specs.Formed.{IsFormed, IsFormedAct, IsFormedFence};
 ghost use Rattle.board_core.specs.Boards.{first_board, edited, requested, after, board_at, taken_by, IsSameBoard, IsBoardOf, HasFitAct};
+ghost use Rattle.board_core.specs.Histories.{is_leave};
 ghost use Rattle.board_core.specs.LiveItems.{live_from, AreNumbered};
 
 use crate::clearances::change;
@@ -282,6 +283,7 @@ impl Board {
         requires formed { IsFormedAct entry.now.act }
         ensures ok { OnOk result (IsSameBoard self.new (after self.old entry.now.client entry.now.act)) }
         ensures err { OnErr result (IsSameBoard self.new self.old) }
+        ensures leave { is_leave entry.now.act ≡ true → is_ok result ≡ true }
     {
         match &entry.act {
             Act::Ask { request } => self.ask(entry.client, request),
@@ -306,6 +308,7 @@ impl Board {
             → IsSameBoard self.old (board_at p journal k) → IsSameBoard self.new (board_at p journal (k + 1))) }
         ensures fits { OnOk result ((p : Parts) → IsBoardOf p self.old → HasFitAct p entry.now.act → IsBoardOf p self.new) }
         ensures err { OnErr result (IsSameBoard self.new self.old) }
+        ensures leave { is_leave entry.now.act ≡ true → is_ok result ≡ true }
     {
         self.take(entry)
     }

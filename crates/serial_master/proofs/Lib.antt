@@ -1,0 +1,5 @@
+pub mod Lefts
+pub mod Legals
+pub mod Weighing
+pub mod Taking
+pub mod Keeping
