@@ -1,7 +1,6 @@
 -- A client's answers, as the history grows.
-use Rattle.std.proofs.Common.{◌≡◌, ℕ, ◌+◌, ◌≤◌, List, [], ◌∷◌, ◌++◌, length, refl, ap, sym, ◌∙◌, subst, arith}
-use Rattle.std.specs.Prelude.{Bool, true, false, ◌==◌, filter}
-use Rattle.std.specs.List.{AllByRecursion}
+use Rattle.std.proofs.Common.{◌≡◌, ℕ, ◌+◌, ◌≤◌, List, [], ◌∷◌, ◌++◌, length, refl, ap, sym, ◌∙◌, arith}
+use Rattle.std.specs.Prelude.{Bool, true, false, ◌==◌}
 use Rattle.std.proofs.lemmas.Bool.{eq-eqb}
 use Rattle.std.proofs.lemmas.List.{append_assoc, append-nil, length-append}
 use Rattle.std.proofs.lemmas.List.Elements.{filter-append}
@@ -14,10 +13,9 @@ use Rattle.board_items.specs.declared.history.Reply.TheVariants.{Done, No, Full,
 use Rattle.board_core.specs.Histories.{journal_of, entries_by, has_left, IsFull}
 use Rattle.desk_core.specs.declared.desk.Answer.{Answer}
 use Rattle.client_desk.specs.Standings.{Standing, journal, with_call, asked_call, leave_call}
-use Rattle.client_desk.specs.Given.{StartsWith, AreWithin, calls_of, answer_by, answers_from, answers_of, is_call, called, HasPoint, HavePoints, HasAnswers}
+use Rattle.client_desk.specs.Given.{AreWithin, calls_of, answer_by, answers_from, answers_of, is_call, called, HasPoint, HavePoints, HasAnswers}
 use Rattle.client_desk.proofs.Fronts.{starts_same, starts_then, all_snoc}
 use Rattle.client_desk.proofs.Journals.{journal_of-append, journal_longer}
-
 
 pub answers_from-append : (n k : ℕ) (h r : List Call) → answers_from n k (h ++ r) ≡ answers_from n k h ++ answers_from n (k + length (journal_of h)) r
 answers_from-append n k [] r = ap (λ j. answers_from n j r) (omega arith)
@@ -53,7 +51,7 @@ answers_asked n base h request reply =
     let d = asked_call n base request reply in
     let es = entries_by n (Ask request) reply in
     let place : (0 + length (journal_of h)) + length es ≡ length (journal_of (h ++ d ∷ [])) =
-        omega (arith, ap length (journal_of-append h (d ∷ [])), length-append (journal_of h) (journal_of (d ∷ [])), length-append es []) in
+    omega (arith, ap length (journal_of-append h (d ∷ [])), length-append (journal_of h) (journal_of (d ∷ [])), length-append es []) in
     answers_from-append n 0 h (d ∷ [])
     ∙ ap (λ w. answers_of n h ++ w) (ap (λ b. answer_by b (Ask request) ((0 + length (journal_of h)) + length es) reply ++ []) test
     ∙ ap (λ (p : ℕ). record { request = request; place = p; reply = reply } ∷ []) place)
@@ -90,7 +88,7 @@ answered_called s n base place request reply given is point at x =
     let c = asked_call n base request reply in
     let a : Answer = record { request = request; place = place; reply = reply } in
     let grown : answers_of n (s.history ++ c ∷ []) ≡ answers_of n s.history ++ a ∷ [] =
-        answers_asked n base s.history request reply ∙ ap (λ (p : ℕ). answers_of n s.history ++ record { request = request; place = p; reply = reply } ∷ []) (sym at) in
+    answers_asked n base s.history request reply ∙ ap (λ (p : ℕ). answers_of n s.history ++ record { request = request; place = p; reply = reply } ∷ []) (sym at) in
     record {
       calls = filter-append (λ (a : Answer). is_call a.reply) given (a ∷ []) ∙ (rw is (ap (λ w. w ++ a ∷ []) x.calls) ∙ sym grown);
       points = all_snoc (λ (a : Answer). HasPoint (with_call s c) n a.request a.place a.reply) given a (points_more s c n given x.points) point;

@@ -1,7 +1,6 @@
 -- What a desk keeps over its calls.
 use Rattle.std.proofs.Common.{◌≡◌, ◌⊎◌, inl, inr, ℕ, ◌+◌, ◌-◌, ◌≤◌, List, [], ◌∷◌, ◌++◌, length, take, drop, refl, ap, sym, ◌∙◌, subst, arith}
 use Rattle.std.specs.Prelude.{Bool, true, false}
-use Rattle.std.specs.List.{AllByRecursion}
 use Rattle.std.proofs.lemmas.List.{append-nil, length-take, length-drop}
 use Rattle.board_items.specs.declared.requests.Request.{Request}
 use Rattle.board_items.specs.declared.history.Act.TheVariants.{Ask}
@@ -10,14 +9,12 @@ use Rattle.board_items.specs.declared.history.Entry.{Entry}
 use Rattle.board_items.specs.declared.history.Reply.{Reply}
 use Rattle.board_items.specs.declared.history.Reply.TheVariants.{Done, No, Full, Left}
 use Rattle.board_rules.specs.declared.design.Parts.{Parts}
-use Rattle.board_core.specs.Histories.{journal_of, has_left, IsFull, IsActReply}
-use Rattle.desk_core.specs.Desks.{IsShown}
+use Rattle.board_core.specs.Histories.{has_left, IsActReply}
 use Rattle.desk_core.specs.declared.desk.Answer.{Answer}
 use Rattle.desk_core.specs.declared.desk.Placed.{Placed}
 use Rattle.client_desk.specs.Standings.{Standing, journal, with_call, with_leave, asked_call, leave_call, IsHere, IsRefused, IsCalled, IsPlaced}
-use Rattle.client_desk.specs.Given.{StartsWith, AreWithin, calls_of, is_call, HasPoint, HasAnswers}
+use Rattle.client_desk.specs.Given.{StartsWith, calls_of, is_call, HasPoint, HasAnswers}
 use Rattle.client_desk.specs.Seats.{IsSeatAt, IsDesk}
-use Rattle.client_desk.proofs.Fronts.{starts_length}
 use Rattle.client_desk.proofs.Journals.{journal_longer, first_entries}
 use Rattle.client_desk.proofs.Owns.{still_here, now_left, none_left}
 use Rattle.client_desk.proofs.Answering.{answered_none, answered_called, answered_full, answered_left}
@@ -98,9 +95,9 @@ desk_way s t client handed place request reply given left d stays (inl r) at =
     let at_s : place ≡ length (journal s) = at ∙ ap (λ (w : Standing). length (journal w)) r.stays in
     let full = answered_full s client place request given r.full (sym d.left_is ∙ stays) at_s d.answered in
     let more : HasAnswers s client (given ++ record { request = request; place = place; reply = reply } ∷ []) =
-        subst (λ (y : Reply). HasAnswers s client (given ++ record { request = request; place = place; reply = y } ∷ [])) (sym r.reply_is) full in
+    subst (λ (y : Reply). HasAnswers s client (given ++ record { request = request; place = place; reply = y } ∷ [])) (sym r.reply_is) full in
     let made : IsDesk s client handed (given ++ record { request = request; place = place; reply = reply } ∷ []) left =
-        record { first = d.first; last = d.last; handed_in = d.handed_in; answered = more; left_is = d.left_is } in
+    record { first = d.first; last = d.last; handed_in = d.handed_in; answered = more; left_is = d.left_is } in
     subst (λ (w : Standing). IsDesk w client handed (given ++ record { request = request; place = place; reply = reply } ∷ []) left) (sym r.stays) made
 desk_way s t client handed place request reply given left d stays (inr r) at =
     let c = asked_call client r.base request reply in

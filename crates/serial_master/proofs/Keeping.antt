@@ -122,8 +122,8 @@ asked t old mid fin new client base weight place r reply was formed present w ro
     let stays : new.present ≡ old.present = stay ∙ (has.present ∙ stayed.present) in
     let numbers : new.board.next_id ≡ fin.board.next_id = ap (λ (x : Board). x.next_id) board in
     let kept = kept_more t old new c was (at_same t fin new has.at board lists) next b grown more weighs_now (stays ∙ (was.present ∙ sym presents))
-        (omega (arith, light, weighs_now, stays, w)) (omega (arith, numbers, has.next, stayed.next))
-        (omega (arith, stays, ap (λ s. s.room) journal, has.journal_room, one)) (omega (arith, stays, put, ap (λ s. s.room) has.history, other)) in
+    (omega (arith, light, weighs_now, stays, w)) (omega (arith, numbers, has.next, stayed.next))
+    (omega (arith, stays, ap (λ s. s.room) journal, has.journal_room, one)) (omega (arith, stays, put, ap (λ s. s.room) has.history, other)) in
     record {
       kept = kept;
       placed_is = record {
@@ -164,8 +164,8 @@ left t old mid new client base was present b has board journal history put heavy
     let stays : new.present + 1 ≡ old.present = stay ∙ has.present in
     let numbers : new.board.next_id ≡ mid.board.next_id = ap (λ (x : Board). x.next_id) board in
     let kept = kept_more t old new c was (at_same t mid new has.at board lists) next b grown more weighs_now (omega (arith, stays, was.present, presents))
-        (omega (arith, weighs_now, stays, was.light)) (omega (arith, numbers, has.next))
-        (omega (arith, stays, ap (λ s. s.room) journal, has.journal_room, was.journal_room)) (omega (arith, stays, put, ap (λ s. s.room) has.history, was.history_room)) in
+    (omega (arith, weighs_now, stays, was.light)) (omega (arith, numbers, has.next))
+    (omega (arith, stays, ap (λ s. s.room) journal, has.journal_room, was.journal_room)) (omega (arith, stays, put, ap (λ s. s.room) has.history, was.history_room)) in
     record {
       kept = kept;
       left = standing_more t old new c grown ∙ ap (λ (n : ℕ). with_call (standing_of t old) (leave_call client n)) based;

@@ -82,5 +82,5 @@ pub journal_formed : (p : Parts) (clients limit : ℕ) (before rest : List Call)
 journal_formed p clients limit before [] few all = tt
 journal_formed p clients limit before (c ∷ rest) few all =
     all_append IsFormedEntry (entries_by c.client c.act c.reply) (journal_of rest)
-        (entries_formed p clients limit before c.client c.base c.act c.reply all.0.present.0 (let most = all.0.present.1 in omega (arith, most, few)) all.0.reply)
-        (journal_formed p clients limit (before ++ c ∷ []) rest few all.1)
+    (entries_formed p clients limit before c.client c.base c.act c.reply all.0.present.0 (let most = all.0.present.1 in omega (arith, most, few)) all.0.reply)
+    (journal_formed p clients limit (before ++ c ∷ []) rest few all.1)

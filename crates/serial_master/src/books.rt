@@ -85,7 +85,14 @@ fn decide<L: Ledger>(
     ensures err { OnErr result (HasStayed terms.now books.old books.new) }
 {
     let mut steps = Steps::<L>::new(blank);
-    match slow_answer(&terms.design, &books.board, terms.clients, client, &request, &mut steps) {
+    match slow_answer(
+        &terms.design,
+        &books.board,
+        terms.clients,
+        client,
+        &request,
+        &mut steps,
+    ) {
         Some(why) => Ok(Reply::No { why }),
         None => {
             let number = books.journal.len() as u32 + 1;

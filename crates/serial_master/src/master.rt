@@ -122,7 +122,9 @@ impl SerialMaster {
     {
         let SerialMaster { books, .. } = self;
         let Books {
-            journal, history, ..
+            journal,
+            history,
+            ..
         } = books;
         (
             Row::from_vec(history.into_vec()),
