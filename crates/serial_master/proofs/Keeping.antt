@@ -1,6 +1,6 @@
 -- What the books keep over an answer.
 use Rattle.std.proofs.Common.{◌≡◌, ◌⊎◌, inl, inr, ℕ, zero, suc, ◌+◌, ◌*◌, ◌-◌, ◌<◌, ◌≤◌, List, [], ◌∷◌, ◌++◌, length, refl, sym, ap, subst, ◌∙◌, arith, length-append}
-use Rattle.std.specs.Prelude.{false}
+use Rattle.std.specs.Prelude.{Bool, true, false, IsTrue, Result, Ok, Err, is_ok, OnOk}
 use Rattle.std.proofs.lemmas.Bool.{cases_lt}
 use Rattle.row_lists.specs.Limits.{client_limit, weight_limit}
 use Rattle.board_items.specs.declared.requests.Request.{Request}
@@ -14,11 +14,11 @@ use Rattle.board_items.specs.Formed.{IsFormed}
 use Rattle.board_items.specs.Weights.{weight_of}
 use Rattle.board_core.specs.Boards.{Board, first_board, last_board, IsBoardOf, IsSameBoard}
 use Rattle.board_core.specs.Histories.{journal_of, entries_by, entry_of, weight_of_calls, present_of, IsFull, IsPresent, IsRequestReply, IsNextCall, IsLegal}
-use Rattle.client_desk.specs.Standings.{Standing, asked_call, leave_call, with_call, with_leave}
+use Rattle.client_desk.specs.Standings.{asked_call, leave_call, with_call}
 use Rattle.serial_master.specs.declared.books.Terms.{Terms}
 use Rattle.serial_master.specs.declared.books.Books.{Books}
 use Rattle.serial_master.specs.Bases.{AreAtEnd}
-use Rattle.serial_master.specs.Books.{AreTerms, IsAtJournal, IsKept, HasStayed, HasTaken, HasDecided, HasAnswered, HasLeft, standing_of}
+use Rattle.serial_master.specs.Books.{IsAtJournal, IsKept, HasStayed, HasTaken, HasDecided, HasAnswered, HasLeft, standing_of}
 use Rattle.serial_master.proofs.Legals.{journal_more, legal_more, bases_more}
 use Rattle.serial_master.proofs.Lefts.{present_same, present_less}
 use Rattle.serial_master.proofs.Weighing.{weight_more, weighs}
@@ -142,6 +142,15 @@ full t b client weight place r was w over at = record {
     place = at ∙ ap length was.journal;
   };
 }
+
+-- a test that fails
+pub not_full : (b : Bool) → b ≡ false → IsTrue b → ⊥
+not_full b fails holds = absurd cc
+
+-- what holds of a call that can't fail
+pub on_ok_if : {T E : Type 0} (r : Result T E) (P : Type 0) → is_ok r ≡ true → OnOk r P → P
+on_ok_if (Ok x) P is p = p
+on_ok_if (Err e) P is p = absurd (cc is)
 
 -- a client that is present is counted
 pub one_present : (t : Terms) (b : Books) (client : ℕ) → IsKept t b → IsPresent t.clients b.history.items client → 1 ≤ b.present

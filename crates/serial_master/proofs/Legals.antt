@@ -1,6 +1,6 @@
 -- Histories with one call more, and what each entry of a legal one is.
-use Rattle.std.proofs.Common.{◌≡◌, ◌⊎◌, inl, inr, ℕ, ◌+◌, ◌≤◌, List, [], ◌∷◌, ◌++◌, length, refl, sym, ap, subst, ◌∙◌, append_assoc, arith}
-use Rattle.std.specs.Prelude.{Some, None}
+use Rattle.std.proofs.Common.{◌≡◌, ℕ, zero, suc, ◌+◌, ◌≤◌, List, [], ◌∷◌, ◌++◌, length, take, drop, sym, ap, subst, ◌∙◌, append_assoc, arith}
+use Rattle.std.specs.Prelude.{Result, Ok, Err, IfOk}
 use Rattle.std.specs.List.{AllByRecursion}
 use Rattle.std.proofs.lemmas.List.{append-nil, length-append}
 use Rattle.row_lists.specs.Limits.{client_limit}
@@ -15,7 +15,7 @@ use Rattle.board_rules.specs.declared.design.Parts.{Parts}
 use Rattle.board_core.specs.Histories.{journal_of, entries_by, IsActReply, IsNextCall, AreNextCalls, IsLegal}
 use Rattle.desk_core.specs.Desks.{IsFormedEntry}
 use Rattle.client_desk.proofs.Journals.{journal_of-append}
-use Rattle.serial_master.specs.Bases.{AreAtEnd, AreUpTo, IsFresh}
+use Rattle.serial_master.specs.Bases.{AreAtEnd, IsFresh}
 
 -- ---- one call more
 
@@ -84,3 +84,21 @@ journal_formed p clients limit before (c ∷ rest) few all =
     all_append IsFormedEntry (entries_by c.client c.act c.reply) (journal_of rest)
     (entries_formed p clients limit before c.client c.base c.act c.reply all.0.present.0 (let most = all.0.present.1 in omega (arith, most, few)) all.0.reply)
     (journal_formed p clients limit (before ++ c ∷ []) rest few all.1)
+
+all_drop : {T : Type 0} (P : T → Type 0) (n : ℕ) (xs : List T) → AllByRecursion P xs → AllByRecursion P (drop n xs)
+all_drop P zero xs all = all
+all_drop P (suc n) [] all = tt
+all_drop P (suc n) (x ∷ xs) all = all_drop P n xs all.1
+
+all_take : {T : Type 0} (P : T → Type 0) (n : ℕ) (xs : List T) → AllByRecursion P xs → AllByRecursion P (take n xs)
+all_take P zero xs all = tt
+all_take P (suc n) [] all = tt
+all_take P (suc n) (x ∷ xs) all = (all.0, all_take P n xs all.1)
+
+-- entries that were looked up
+pub looked_formed : {E : Type 0} (p : Parts) (clients limit : ℕ) (calls : List Call) (es : List Entry) (n count : ℕ) (r : Result (List Entry) E) → clients ≤ client_limit → IsLegal p clients limit calls → es ≡ journal_of calls
+    → IfOk r (λ (found : List Entry). found ≡ take count (drop n es)) → IfOk r (AllByRecursion IsFormedEntry)
+looked_formed p clients limit calls es n count (Ok found) few legal is x =
+    let all : AllByRecursion IsFormedEntry es = subst (AllByRecursion IsFormedEntry) (sym is) (journal_formed p clients limit [] calls few legal) in
+    subst (AllByRecursion IsFormedEntry) (sym x) (all_take IsFormedEntry count (drop n es) (all_drop IsFormedEntry n es all))
+looked_formed p clients limit calls es n count (Err e) few legal is x = tt

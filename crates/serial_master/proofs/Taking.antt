@@ -1,5 +1,5 @@
 -- The board and the journal behind one entry more.
-use Rattle.std.proofs.Common.{◌≡◌, ℕ, ◌+◌, ◌*◌, ◌-◌, ◌≤◌, List, [], ◌∷◌, ◌++◌, length, Some, None, refl, sym, ap, subst, ◌∙◌, arith, length-append}
+use Rattle.std.proofs.Common.{◌≡◌, ℕ, ◌+◌, ◌-◌, List, [], ◌∷◌, ◌++◌, length, Some, None, refl, sym, ap, subst, ◌∙◌, arith, length-append}
 use Rattle.std.specs.Prelude.{Option}
 use Rattle.std.proofs.lemmas.List.{append-nil}
 use Rattle.board_items.specs.declared.items.Item.{Item}
@@ -9,11 +9,10 @@ use Rattle.board_items.specs.declared.history.Act.TheVariants.{Ask}
 use Rattle.board_items.specs.declared.history.Entry.{Entry}
 use Rattle.board_items.specs.declared.history.Reply.TheVariants.{Done, No}
 use Rattle.board_items.specs.declared.history.Why.{Why}
-use Rattle.board_items.specs.Weights.{weight_of}
 use Rattle.boundaries.specs.Boundaries.{Boundary}
 use Rattle.board_core.specs.Boards.{Board, after, folded, first_board, last_board, IsBoardOf, IsSameBoard}
 use Rattle.board_core.specs.Answers.{IsAnswer}
-use Rattle.board_core.specs.Histories.{entry_of, entries_by}
+use Rattle.board_core.specs.Histories.{entry_of}
 use Rattle.serial_master.specs.declared.books.Terms.{Terms}
 use Rattle.serial_master.specs.declared.books.Books.{Books}
 use Rattle.serial_master.specs.Books.{IsAtJournal, HasStayed, HasTaken, HasDecided}

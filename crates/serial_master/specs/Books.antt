@@ -1,6 +1,6 @@
 -- What the serial master keeps true, and what each step of an answer leaves.
 -- No public contract cites this module
-use Rattle.std.specs.Prelude.{◌≡◌, ℕ, ◌+◌, ◌*◌, ◌≤◌, ◌-◌, List, [], ◌∷◌, ◌++◌, length}
+use Rattle.std.specs.Prelude.{◌≡◌, ℕ, ◌+◌, ◌*◌, ◌≤◌, ◌-◌, [], ◌∷◌, ◌++◌, length}
 use Rattle.row_lists.specs.Limits.{client_limit, weight_limit}
 use Rattle.board_items.specs.declared.requests.Request.{Request}
 use Rattle.board_items.specs.declared.history.Act.{Act}
