@@ -1,5 +1,5 @@
 //! One client's calls over a master for two clients, with a limit of 20.
-ghost use Rattle.std.specs.Prelude.{◌≡◌, ◌<◌, [], IfOk, length};
+ghost use Rattle.std.specs.Prelude.{◌≡◌, ◌<◌, [], true, false, IfOk, OnOk, length};
 ghost use Rattle.std.specs.List.{AllByRecursion};
 ghost use Rattle.seg_geometry.specs.Points.{IsInRange};
 ghost use Rattle.board_items.specs.Formed.{IsFormed, IsFormedAdd};
@@ -33,7 +33,7 @@ fn one_class(alloc: Global) -> Result<ClassRows, AllocError>
 }
 
 fn one_net(alloc: Global) -> Result<NetRows, AllocError>
-    ensures { IfOk result (AllByRecursion (λ row. row.class < 1)) }
+    ensures classes { IfOk result (AllByRecursion (λ row. row.class < 1)) }
     ensures count { IfOk result (λ all. length all ≡ 1) }
 {
     let name = Row::new(alloc);
@@ -86,12 +86,39 @@ fn wire(alloc: Global, y: u16) -> Result<Request, AllocError>
     })
 }
 
-// What a client was handed out and answered, the number of its leave, and how many entries a look from 1 on gives then.
+// A look, and then a request: how many entries came, and the answer.
+fn turn<K: Desk>(desk: &mut K, request: Request) -> Result<(usize, Placed), AllocError>
+    requires here { (K.told desk.old).left ≡ false }
+    requires able { (K.told desk.old).ran_out ≡ false }
+    requires formed { IsFormed request }
+    ensures here { (K.told desk.new).left ≡ false }
+    ensures able { OnOk result ((K.told desk.new).ran_out ≡ false) }
+{
+    let count = desk.look()?.len();
+    let placed = desk.ask(request)?;
+    Ok((count, placed))
+}
+
+// Two edits of one wire each, and two reservations of one item.
+fn turns<K: Desk>(alloc: Global, desk: &mut K) -> Result<[(usize, Placed); 4], AllocError>
+    requires here { (K.told desk.old).left ≡ false }
+    requires able { (K.told desk.old).ran_out ≡ false }
+    ensures here { (K.told desk.new).left ≡ false }
+{
+    Ok([
+        turn(desk, wire(alloc, 0)?)?,
+        turn(desk, wire(alloc, 1_000)?)?,
+        turn(desk, Request::Reserve { id: ItemId(1) })?,
+        turn(desk, Request::Reserve { id: ItemId(1) })?,
+    ])
+}
+
+// What a client was handed out and answered, the number of its leave, and how many entries there are then.
+#[derive(Drop)]
 struct Sat {
-    looks: [usize; 4],
-    placed: [Placed; 4],
+    turns: [(usize, Placed); 4],
     number: u32,
-    behind: usize,
+    entries: usize,
 }
 
 fn sit<J: Place>(alloc: Global, master: SerialMaster) -> Result<Sat, AllocError>
@@ -103,22 +130,15 @@ fn sit<J: Place>(alloc: Global, master: SerialMaster) -> Result<Sat, AllocError>
     requires empty { master.history ≡ [] }
 {
     let mut desk: ClientDesk<SerialMaster, J> = ClientDesk::new(alloc, master, 1);
-    let none = desk.look()?.len();
-    let done = desk.ask(wire(alloc, 0)?)?;
-    let one = desk.look()?.len();
-    let full = desk.ask(wire(alloc, 1_000)?)?;
-    let still = desk.look()?.len();
-    let held = desk.ask(Request::Reserve { id: ItemId(1) })?;
-    let two = desk.look()?.len();
-    let again = desk.ask(Request::Reserve { id: ItemId(1) })?;
+    let turns = turns(alloc, &mut desk);
     let number = desk.leave();
     let mut master = desk.into_master();
-    let behind = master.look(1)?.len();
+    let entries = master.look(0)?.len();
+    let turns = turns?;
     Ok(Sat {
-        looks: [none, one, still, two],
-        placed: [done, full, held, again],
+        turns,
         number,
-        behind,
+        entries,
     })
 }
 
@@ -130,6 +150,7 @@ fn a_client_is_answered_refused_and_full(rt: HostRuntime) -> Result<(), Fail> {
     let sat = sit::<Brand>(alloc, SerialMaster::start(alloc, design, 2, 20)?)?;
     let id = ItemId(1);
     let why = Why::Reserved { id, client: 1 };
+    let looks = [0, 1, 0, 1];
     let replies = [
         (1, Reply::Done { number: 1 }),
         (1, Reply::Full),
@@ -137,11 +158,11 @@ fn a_client_is_answered_refused_and_full(rt: HostRuntime) -> Result<(), Fail> {
         (2, Reply::No { why }),
     ];
     for (i, (place, reply)) in replies.iter().enumerate() {
-        assert_eq!(rt; sat.placed[i].place, *place, "the place of answer {i}");
-        assert_eq!(rt; sat.placed[i].reply, *reply, "answer {i}");
+        assert_eq!(rt; sat.turns[i].1.place, *place, "the place of answer {i}");
+        assert_eq!(rt; sat.turns[i].1.reply, *reply, "answer {i}");
+        assert_eq!(rt; sat.turns[i].0, looks[i], "what came before answer {i}");
     }
-    assert_eq!(rt; sat.looks, [0, 1, 0, 1], "what was handed out");
     assert_eq!(rt; sat.number, 3, "the leave");
-    assert_eq!(rt; sat.behind, 2, "the entries behind the first");
+    assert_eq!(rt; sat.entries, 3, "all entries");
     Ok(())
 }
