@@ -1,4 +1,4 @@
-//! The layout server's program: `replay <dsn> <script> <ses>` and `check <dsn>`.
+//! The layout server's program: `replay <dsn> <script> <ses>`, `check <dsn>` and `serve <address> <clients> <dsn> <ses>`.
 #![tactic(auto)]
 
 mod check;
@@ -9,8 +9,9 @@ mod store;
 #[cfg(test)]
 mod tests;
 
-use layout_io::{HostFiles, HostSink};
+use layout_io::{HostFiles, HostSink, OpenGate, TcpDoor};
 use run::run;
+use session_server::serve;
 use std::io;
 use std::process::ExitCode;
 use std::rt::HostRuntime;
@@ -27,5 +28,13 @@ fn main(rt: HostRuntime) -> ExitCode {
         Err(_) => Vec::new(rt.alloc()),
     };
     let mut files = HostFiles::new(&rt);
-    ExitCode::from(run(rt.alloc(), &words, &mut files, &mut out))
+    let alloc = rt.alloc();
+    if !words.is_empty() && words[0].as_str() == "serve" {
+        let mut door = TcpDoor::new(&rt);
+        let served = serve(
+            &rt, alloc, &words, &mut files, &mut door, &OpenGate, &mut out,
+        );
+        return ExitCode::from(served.end.status());
+    }
+    ExitCode::from(run(alloc, &words, &mut files, &mut out))
 }

@@ -1,0 +1,5 @@
+pub mod Words
+pub mod Ends
+pub mod Lefts
+pub mod Stages
+pub mod Rows
