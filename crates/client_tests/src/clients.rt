@@ -225,3 +225,38 @@ fn words_of(alloc: Global, line: &str) -> Result<Vec<String>, Fail> {
     }
     Ok(words)
 }
+
+#[test]
+fn each_stop_has_its_status(rt: HostRuntime) -> Result<(), Fail> {
+    // The words, whether the connect fails, the write of the output that fails, the status, and what is printed.
+    let rows = [
+        ("a b.dsn", false, 0, 1, "usage\n"),
+        ("a b.dsn lines --help", false, 0, 1, "usage\n"),
+        ("a b.dsn lines", true, 0, 9, ""),
+        ("a none lines", false, 0, 3, ""),
+        ("a lines lines", false, 0, 2, ""),
+        ("a b.dsn none", false, 0, 3, ""),
+        ("a b.dsn lines", false, 1, 4, ""),
+        ("a b.dsn lines", false, 2, 4, "hello 1 1\n"),
+    ];
+    let line = Line {
+        input: VIA_TAKEN,
+        most: 0,
+        read: 0,
+        write: 0,
+    };
+    for (words, fails, write, status, printed) in rows {
+        let mut files = files_of(rt.alloc(), VIA)?;
+        let mut dial = MemDial::new(rt.alloc(), link_of(rt.alloc(), &line)?);
+        if fails {
+            dial.fail_connect();
+        }
+        let mut out = MemSink::new(rt.alloc());
+        out.fail_write(write)?;
+        let words = words_of(rt.alloc(), words)?;
+        let talked = client(&rt, rt.alloc(), &words, &mut files, &mut dial, &mut out);
+        assert_eq!(rt; talked.status, status, "how {words:?} end");
+        assert_eq!(rt; out.written(), printed.as_bytes(), "what {words:?} print");
+    }
+    Ok(())
+}
