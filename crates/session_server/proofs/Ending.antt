@@ -1,5 +1,5 @@
 -- From the parts of a serving to its end.
-use Rattle.std.proofs.Common.{◌≡◌, ◌≢◌, ◌⊎◌, ℕ, List, Option, sym, ap, subst, refl, ◌∙◌, inl, inr}
+use Rattle.std.proofs.Common.{◌≡◌, ◌⊎◌, ℕ, List, Option, sym, subst, refl, ◌∙◌, inl, inr}
 use Rattle.layout_io.specs.Causes.{Rose}
 use Rattle.layout_io.specs.Told.{FilesTold}
 use Rattle.layout_io.specs.Doors.{DoorTold}
@@ -9,9 +9,9 @@ use Rattle.board_core.specs.Boards.{last_board}
 use Rattle.board_files.specs.Inputs.{HasToldClean}
 use Rattle.board_files.proofs.Excluded.{told_fault, told_unclean}
 use Rattle.ses_writer.specs.Session.{session_of}
-use Rattle.session_server.specs.Words.{Names, IsServe}
-use Rattle.session_server.specs.Lefts.{Left, nothing, HasServed}
-use Rattle.session_server.specs.Rows.{IsMade, IsStored, HasNotBegun, HasBegun, IsEnded, IsUsage, HasCounts, NoFault}
+use Rattle.session_server.specs.Words.{Names}
+use Rattle.session_server.specs.Lefts.{Left, HasServed}
+use Rattle.session_server.specs.Rows.{IsMade, IsStored, HasNotBegun, HasBegun, IsEnded, NoFault}
 use Rattle.session_server.specs.Stages.{IsBound, IsReady, AcceptEnd, HasRun, RunEnd}
 use Rattle.session_server.proofs.Files.{empty_file, short_ready}
 use Rattle.session_server.proofs.Texts.{stored, only_written, asks_written}
@@ -62,110 +62,9 @@ pub opened_end : (end : End) (n : Names) (parts : Parts) (file : ℕ) (f g h : F
 opened_end end n parts file f g h d e a l bound r (inl none) = inl (none.0, subst (λ (x : FilesTold). HasNotBegun n f x d a end) (sym none.1) (accept_end end n parts file f g d e a bound r none.2))
 opened_end end n parts file f g h d e a l bound r (inr run) = inr (begun end n parts file f g h d e a l bound r run)
 
--- ---- the counts
-
-quiet : (end : End) (f g : FilesTold) (d e : DoorTold) → end ≢ ends.Read → end ≢ ends.Write → end ≢ ends.Door → g.read_faults ≡ f.read_faults → g.write_faults ≡ f.write_faults → e.faults ≡ d.faults → HasCounts end f g d e
-quiet end f g d e not_read not_write not_door reads writes faults = record {
-  read = λ is. absurd (not_read is);
-  no_read_fault = λ _. reads;
-  write = λ is. absurd (not_write is);
-  no_write_fault = λ _. writes;
-  door = λ is. absurd (not_door is);
-  no_door_fault = λ _. faults;
-}
-
-not_written : (f g : FilesTold) (d e : DoorTold) → g.read_faults ≡ f.read_faults → Rose f.write_faults g.write_faults → e.faults ≡ d.faults → HasCounts ends.Write f g d e
-not_written f g d e reads rose faults = record {
-  read = λ is. absurd (cc is);
-  no_read_fault = λ _. reads;
-  write = λ _. rose;
-  no_write_fault = λ not. absurd (not refl);
-  door = λ is. absurd (cc is);
-  no_door_fault = λ _. faults;
-}
-
-not_read : (f g : FilesTold) (d e : DoorTold) → Rose f.read_faults g.read_faults → g.write_faults ≡ f.write_faults → e.faults ≡ d.faults → HasCounts ends.Read f g d e
-not_read f g d e rose writes faults = record {
-  read = λ _. rose;
-  no_read_fault = λ not. absurd (not refl);
-  write = λ is. absurd (cc is);
-  no_write_fault = λ _. writes;
-  door = λ is. absurd (cc is);
-  no_door_fault = λ _. faults;
-}
-
-not_opened : (f g : FilesTold) (d e : DoorTold) → g.read_faults ≡ f.read_faults → g.write_faults ≡ f.write_faults → Rose d.faults e.faults → HasCounts ends.Door f g d e
-not_opened f g d e reads writes rose = record {
-  read = λ is. absurd (cc is);
-  no_read_fault = λ _. reads;
-  write = λ is. absurd (cc is);
-  no_write_fault = λ _. writes;
-  door = λ _. rose;
-  no_door_fault = λ not. absurd (not refl);
-}
-
-door_reads : (n : Names) (f g : FilesTold) → (g ≡ f) ⊎ IsMade n.design n.session f g → g.read_faults ≡ f.read_faults
-door_reads n f g (inl same) = ap (λ (x : FilesTold). x.read_faults) same
-door_reads n f g (inr made) = made.asks.reads
-
-door_writes : (n : Names) (f g : FilesTold) → (g ≡ f) ⊎ IsMade n.design n.session f g → g.write_faults ≡ f.write_faults
-door_writes n f g (inl same) = ap (λ (x : FilesTold). x.write_faults) same
-door_writes n f g (inr made) = made.writes
-
-pub ended_counts : (end : End) (n : Names) (f g : FilesTold) (d e : DoorTold) (l : Left) → IsEnded n f g d e l end → HasCounts end f g d e
-ended_counts ends.Done n f g d e l (inl none) = absurd none.1.0
-ended_counts ends.Usage n f g d e l (inl none) = absurd none.1.0
-ended_counts (ends.Design kind at) n f g d e l (inl none) = quiet (ends.Design kind at) f g d e (λ is. cc is) (λ is. cc is) (λ is. cc is) none.1.0.1.reads none.1.0.1.writes none.1.1.faults
-ended_counts ends.Read n f g d e l (inl none) = not_read f g d e none.1.0.reads none.1.0.writes none.1.1.faults
-ended_counts ends.Write n f g d e l (inl none) = not_written f g d e none.1.0.asks.reads none.1.0.rose none.1.1.faults
-ended_counts (ends.Unclean a b) n f g d e l (inl none) = quiet (ends.Unclean a b) f g d e (λ is. cc is) (λ is. cc is) (λ is. cc is) none.1.0.1.reads none.1.0.1.writes none.1.1.faults
-ended_counts ends.Memory n f g d e l (inl none) = quiet ends.Memory f g d e (λ is. cc is) (λ is. cc is) (λ is. cc is) none.1.0.asks.reads none.1.0.writes none.1.1.1
-ended_counts ends.Door n f g d e l (inl none) = not_opened f g d e (door_reads n f g none.1.files) (door_writes n f g none.1.files) none.1.rose
-ended_counts ends.Done n f g d e l (inr b) = quiet ends.Done f g d e (λ is. cc is) (λ is. cc is) (λ is. cc is) b.asks.reads b.stored.1 b.door.faults
-ended_counts ends.Write n f g d e l (inr b) = not_written f g d e b.asks.reads b.stored.3 b.door.faults
-ended_counts ends.Memory n f g d e l (inr b) = quiet ends.Memory f g d e (λ is. cc is) (λ is. cc is) (λ is. cc is) b.asks.reads b.stored.2 b.door.faults
-ended_counts ends.Usage n f g d e l (inr b) = absurd b.stored
-ended_counts (ends.Design kind at) n f g d e l (inr b) = absurd b.stored
-ended_counts ends.Read n f g d e l (inr b) = absurd b.stored
-ended_counts (ends.Unclean x y) n f g d e l (inr b) = absurd b.stored
-ended_counts ends.Door n f g d e l (inr b) = absurd b.stored
-
-pub usage_counts : (f : FilesTold) (d : DoorTold) → HasCounts ends.Usage f f d d
-usage_counts f d = quiet ends.Usage f f d d (λ is. cc is) (λ is. cc is) (λ is. cc is) refl refl refl
-
-pub memory_counts : (f : FilesTold) (d : DoorTold) → HasCounts ends.Memory f f d d
-memory_counts f d = quiet ends.Memory f f d d (λ is. cc is) (λ is. cc is) (λ is. cc is) refl refl refl
-
--- ---- words
-
 no_usage : (n : Names) (f g : FilesTold) (d e : DoorTold) (l : Left) → IsEnded n f g d e l ends.Usage → ⊥
 no_usage n f g d e l (inl none) = none.1.0
 no_usage n f g d e l (inr b) = b.stored
-
-never_usage : (end : End) (n : Names) (f g : FilesTold) (d e : DoorTold) (l : Left) → IsEnded n f g d e l end → end ≡ ends.Usage → ⊥
-never_usage end n f g d e l ended is = no_usage n f g d e l (subst (IsEnded n f g d e l) is ended)
-
--- words of the form aren't told as wrong
-pub no_usage_told : (words : List (List ℕ)) (end : End) (f g : FilesTold) (d e : DoorTold) (l : Left) → IsServe words → (end ≡ ends.Usage → ⊥) → IsUsage words f g d e l end
-no_usage_told words end f g d e l form not = record {
-  words_are = λ is. absurd (not is);
-  told = λ none. absurd (none form);
-  files = λ is. absurd (not is);
-  door = λ is. absurd (not is);
-  left = λ is. absurd (not is);
-}
-
-pub ended_told : (words : List (List ℕ)) (end : End) (n : Names) (f g : FilesTold) (d e : DoorTold) (l : Left) → IsServe words → IsEnded n f g d e l end → IsUsage words f g d e l end
-ended_told words end n f g d e l form ended = no_usage_told words end f g d e l form (never_usage end n f g d e l ended)
-
-pub usage_told : (words : List (List ℕ)) (f : FilesTold) (d : DoorTold) → (IsServe words → ⊥) → IsUsage words f f d d nothing ends.Usage
-usage_told words f d not = record {
-  words_are = λ is form. not form;
-  told = λ none. refl;
-  files = λ is. refl;
-  door = λ is. refl;
-  left = λ is. refl;
-}
 
 -- ---- completeness
 

@@ -17,7 +17,6 @@ use Rattle.whole_files.proofs.Asks.{asked_less, asked_after}
 use Rattle.whole_files.proofs.Tolds.{told_then, told_weaker}
 use Rattle.whole_files.proofs.Founds.{short_of}
 use Rattle.board_files.specs.Loads.{DesignStop}
-use Rattle.board_files.specs.Stores.{MakeStop}
 use Rattle.session_server.specs.Ends.{end_of_stop}
 use Rattle.session_server.specs.Rows.{HasFile, AsksBoth, IsShort, FilesEnd}
 use Rattle.session_server.specs.Stages.{IsLoaded, MakeEnd, IsEmptyFile, IsReady}
@@ -46,14 +45,6 @@ load_end stops.Memory design session f g cause = short_read design session f g c
 -- no memory for the master of a design that was loaded
 pub start_end : (design session : List ℕ) (f g : FilesTold) → OnlyRead (design ∷ []) f g → FilesEnd design session f g ends.Memory
 start_end design session f g only = short_read design session f g (short_of (design ∷ []) f g only)
-
-pub make_end : (stop : Stop) (f g : FilesTold) → MakeStop f g stop → MakeEnd f g (end_of_stop stop)
-make_end (stops.Design e) f g cause = absurd cause
-make_end stops.Read f g cause = absurd cause
-make_end stops.Write f g cause = cause
-make_end (stops.Script k) f g cause = absurd cause
-make_end (stops.Unclean a b) f g cause = absurd cause
-make_end stops.Memory f g cause = cause
 
 same_behind : (a b c : Option Disk) → Told a b SameFiles → Told b c SameFiles → Told a c SameFiles
 same_behind a b c p q = told_then a b c SameFiles SameFiles SameFiles p q (λ d e f x y. y ∙ x)

@@ -1,44 +1,13 @@
 -- The text of the last board, as far as it is stored.
-use Rattle.std.proofs.Common.{◌≡◌, ℕ, List, [], take, Option, Some, sym, ap, subst, refl, ◌∙◌}
-use Rattle.std.proofs.lemmas.List.{append-nil}
+use Rattle.std.proofs.Common.{◌≡◌, ℕ, List, [], take, Option, Some, sym, ap, subst, ◌∙◌}
 use Rattle.layout_io.specs.Causes.{Rose}
 use Rattle.layout_io.specs.Told.{Disk, Told, FilesTold, bytes_of}
-use Rattle.board_rules.specs.declared.design.Parts.{Parts}
-use Rattle.board_core.specs.Boards.{Board, IsSameBoard}
-use Rattle.whole_files.specs.Outside.{OnlyWrites, WroteFile, WroteFirst, WriteStop}
-use Rattle.whole_files.specs.declared.stop.Stop.{Stop}
-use Rattle.whole_files.specs.declared.stop.Stop.TheVariants as stops
-use Rattle.whole_files.proofs.Tolds.{told_same, told_then}
-use Rattle.ses_writer.specs.Session.{session_of}
-use Rattle.session_server.specs.Ends.{end_of_stop}
+use Rattle.whole_files.specs.Outside.{OnlyWrites, WroteFile}
+use Rattle.whole_files.proofs.Tolds.{told_then}
 use Rattle.session_server.specs.Rows.{HasFile, AsksBoth, IsStored}
 use Rattle.session_server.specs.Stages.{IsEmptyFile, StoreEnd}
 use Rattle.session_server.specs.declared.ends.End.{End}
 use Rattle.session_server.specs.declared.ends.End.TheVariants as ends
-
--- the text is that of the last board
-pub same_text : (p : Parts) (b c : Board) (text : List ℕ) → IsSameBoard b c → text ≡ session_of p b.live → text ≡ session_of p c.live
-same_text p b c text same is = is ∙ ap (session_of p) same.live
-
--- a text was cut
-pub put_end : (stop : Stop) (file : ℕ) (text : List ℕ) (f g : FilesTold) → OnlyWrites f g → WriteStop file text f g stop → StoreEnd file text f g (end_of_stop stop)
-put_end stops.Write file text f g only cause = (cause.0, cause.1, only)
-put_end stops.Memory file text f g only cause = ((cause.0.m, cause.0.wrote), cause.1, only)
-put_end (stops.Design e) file text f g only cause = absurd cause
-put_end stops.Read file text f g only cause = absurd cause
-put_end (stops.Script k) file text f g only cause = absurd cause
-put_end (stops.Unclean a b) file text f g only cause = absurd cause
-
-nothing_written : (file : ℕ) (text : List ℕ) (d : Disk) → WroteFirst file text 0 d d
-nothing_written file text d = record {
-  grown = λ had is. is ∙ ap (λ (x : List ℕ). Some x) (sym (append-nil had));
-  others = λ other ne. refl;
-  target = refl;
-}
-
--- no memory for the text
-pub no_text : (file : ℕ) (text : List ℕ) (f : FilesTold) → StoreEnd file text f f ends.Memory
-no_text file text f = ((0, told_same f.disk (WroteFirst file text 0) (nothing_written file text)), refl, record { asked = refl; reads = refl })
 
 -- ---- in the session file
 
