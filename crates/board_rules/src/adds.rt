@@ -13,8 +13,10 @@ use seg_geometry::Steps;
 use std::sync::ledger::Ledger;
 
 impl Design {
-    // The first reason against the add of number `a` by itself.
-    fn add_why<L: Ledger>(&self, a: u32, add: &Add, steps: &mut Steps<L>) -> Option<Why>
+    /// The first reason against the add of number `a` by itself, or none: no such net, layer or padstack, a width below
+    /// its class's, a point out of range, a shape that isn't inside the outline. It takes no memory, and at most a step
+    /// for each segment of the add and each edge of the outline.
+    pub fn add_why<L: Ledger>(&self, a: u32, add: &Add, steps: &mut Steps<L>) -> Option<Why>
         requires { IsFormedAdd add.now }
         ensures reason { IsAddReason self.now.parts a add.now result }
         ensures cost { steps.new ≤ steps.old + outline_most self.now.parts (item_of_add add.now) }

@@ -50,8 +50,9 @@ impl Design {
         None
     }
 
-    // The least pair of adds that are too near.
-    pub(crate) fn own_why<L: Ledger>(
+    /// The reason that names the least two adds that are too near under these rules, or none. It takes no memory, and at
+    /// most a step for each two segments of two adds.
+    pub fn own_why<L: Ledger>(
         &self,
         rules: RulesView<'_>,
         adds: &[Add],
