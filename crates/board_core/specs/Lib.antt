@@ -12,3 +12,4 @@ pub mod Answers
 pub mod Costs
 pub mod Histories
 pub mod Shields
+pub mod Verdicts

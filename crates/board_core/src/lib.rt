@@ -15,7 +15,10 @@ mod made;
 mod nears;
 mod pairs;
 mod reservings;
+mod verdict;
 
 pub use answer::slow_answer;
 pub use board::Board;
+pub use deletes::{deletes_why, held_why};
 pub use pairs::{clean, slow_pair};
+pub use verdict::{Pairs, Verdict};
