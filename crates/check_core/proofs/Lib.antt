@@ -5,3 +5,11 @@ pub mod Found
 pub mod Least
 pub mod Tests
 pub mod KeptPairs
+pub mod Growth
+pub mod Adding
+pub mod Leaving
+pub mod Taking
+pub mod Clashing
+pub mod Follow
+pub mod Making
+pub mod Meeting

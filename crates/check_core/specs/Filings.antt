@@ -2,7 +2,7 @@
 -- which numbers a question for an item has to tell
 -- Cited by all that enters items and asks for them
 use Rattle.std.specs.Prelude.{◌≡◌, ℕ, List, [], ◌∷◌, ◌++◌, All}
-use Rattle.std.specs.List.{Contains}
+use Rattle.std.specs.List.{AllByRecursion, Contains}
 use Rattle.std.specs.List.Sorted.{IsStrictlyIncreasing}
 use Rattle.seg_geometry.specs.declared.near.Filed.{Filed}
 use Rattle.seg_geometry.specs.declared.rectangles.Rect.{Rect}
@@ -30,6 +30,10 @@ AreFiledUnder id (s ∷ ss) [] = ⊥
 abbrev pub AreFiled : List Padstack → List (ℕ × Item) → List Filed → Type 0
 AreFiled stacks [] filed = filed ≡ []
 AreFiled stacks (l ∷ rest) filed = (front : List Filed) × (back : List Filed) × (filed ≡ front ++ back) × AreFiledUnder l.0 (copper_of_item stacks l.1) front × AreFiled stacks rest back
+
+-- the list has become longer by what is filed under this number
+abbrev pub Lengthens : ℕ → List Filed → List Filed → Type 0
+Lengthens id old new = (more : List Filed) × (new ≡ old ++ more) × AllByRecursion (λ (f : Filed). f.id ≡ id) more
 
 -- the list has become longer by this shape
 abbrev pub EntersShape : ℕ → Copper → List Filed → List Filed → Type 0

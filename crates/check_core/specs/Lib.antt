@@ -1,2 +1,7 @@
 pub mod Filings
 pub mod Nearest
+pub mod NearCosts
+pub mod CheckCosts
+pub mod Checking
+pub mod Changes
+pub mod Tries

@@ -5,7 +5,7 @@ ghost use Rattle.board_items.specs.Adds.{item_seen};
 ghost use Rattle.board_items.specs.Shapes.{copper_of_item};
 ghost use Rattle.board_rules.specs.Designs.{IsFitItem, HasEnough};
 ghost use Rattle.number_slots.specs.Slots.{numbered};
-ghost use Rattle.check_core.specs.Filings.{EntersShape, Enters, EntersAll};
+ghost use Rattle.check_core.specs.Filings.{EntersShape, Enters, EntersAll, Lengthens};
 
 use area_geometry::{ShapeView, box_of};
 use board_items::{ItemView, shape_at, shape_count, view};
@@ -17,8 +17,9 @@ use std::alloc::AllocError;
 fn enter_shape<N: Near>(near: &mut N, id: u32, shape: ShapeView<'_>) -> Result<(), AllocError>
     requires limits { IsWithinLimits (copper_of shape) }
     requires enough { HasEnough (copper_of shape) }
-    ensures { OnOk result
+    ensures entered { OnOk result
         (EntersShape id (copper_of shape.entry) (N.filed near.old) (N.filed near.new)) }
+    ensures own { Lengthens id (N.filed near.old) (N.filed near.new) }
 {
     near.insert(id, shape.layer, box_of(shape, 0))
 }
@@ -32,8 +33,9 @@ pub fn enter<N: Near>(
     item: ItemView<'_>,
 ) -> Result<(), AllocError>
     requires { IsFitItem design.now.parts (item_seen item) }
-    ensures { OnOk result
+    ensures entered { OnOk result
         (Enters id (copper_of_item design.now.parts.stacks (item_seen item.entry)) (N.filed near.old) (N.filed near.new)) }
+    ensures own { Lengthens id (N.filed near.old) (N.filed near.new) }
 {
     for i in 0..shape_count(item, design.stacks()) {
         enter_shape(near, id, shape_at(item, design.stacks(), i))?;
