@@ -1,7 +1,7 @@
 -- Adds that are tested by themselves, one after another.
 use Rattle.std.proofs.Common.{◌≡◌, ℕ, zero, suc, ◌+◌, List, [], ◌∷◌, ◌++◌, get_or, take, refl, sym, subst, ap, ◌∙◌, inl, inr, Bool, true, false, arith}
 use Rattle.std.proofs.lemmas.List.{take_more}
-use Rattle.std.specs.Prelude.{◌≤◌, ◌<◌, ◌⊎◌, ◌↔◌, IsTrue, Option, Some, None, is_none, length, not}
+use Rattle.std.specs.Prelude.{◌≤◌, ◌<◌, ◌↔◌, IsTrue, Option, Some, None, is_none, length, not}
 use Rattle.std.specs.List.{AllByRecursion, AllZip}
 use Rattle.board_items.specs.declared.requests.Add.{Add}
 use Rattle.board_items.specs.declared.requests.Add.TheVariants as adds

@@ -1,7 +1,7 @@
 -- The clashes of adds, one add after another, are those of all, and rise.
 use Rattle.std.proofs.Common.{◌≡◌, ℕ, zero, suc, ◌+◌, ◌<◌, ◌≤◌, List, [], ◌∷◌, ◌++◌, length, get_or, refl, sym, ap, subst, ◌∙◌, arith, inl, inr}
 use Rattle.std.proofs.lemmas.List.{append_assoc}
-use Rattle.std.specs.Prelude.{◌⊎◌, ◌↔◌, Option, Result, Ok, Err, IfOk}
+use Rattle.std.specs.Prelude.{◌↔◌, Option, Result, Ok, Err, IfOk}
 use Rattle.std.specs.List.{AllByRecursion, Contains}
 use Rattle.std.specs.List.Sorted.{IsStrictlyIncreasing}
 use Rattle.std.proofs.lemmas.List.Elements.{recursion_from_All}
@@ -63,8 +63,8 @@ pairs_join : (a : ℕ) (ids : List ℕ) (more : List (ℕ × ℕ)) → Rising id
 pairs_join a [] more r past h = h
 pairs_join a (x ∷ rest) more r past h = (
   all_join (λ y. GoesBefore a x y.0 y.1) (paired a rest) more
-    (all_mapped (λ y. GoesBefore a x y.0 y.1) a rest (each_id (λ (y : ℕ). x < y) (λ (y : ℕ). GoesBefore a x a y) rest (λ y lt. inr (refl, lt)) r.0))
-    (all_other (λ (y : ℕ × ℕ). a < y.0) (λ y. GoesBefore a x y.0 y.1) more (λ y lt. inl lt) past),
+      (all_mapped (λ y. GoesBefore a x y.0 y.1) a rest (each_id (λ (y : ℕ). x < y) (λ (y : ℕ). GoesBefore a x a y) rest (λ y lt. inr (refl, lt)) r.0))
+      (all_other (λ (y : ℕ × ℕ). a < y.0) (λ y. GoesBefore a x y.0 y.1) more (λ y lt. inl lt) past),
   pairs_join a rest more r.1 past h,
 )
 

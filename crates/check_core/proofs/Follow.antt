@@ -1,6 +1,6 @@
 -- A board, and what is filed of it, after one more entry.
-use Rattle.std.proofs.Common.{◌≡◌, ℕ, suc, ◌+◌, ◌<◌, ◌≤◌, List, [], ◌∷◌, ◌++◌, length, drop, get_or, arith, refl, sym, ap, subst, ◌∙◌, inl, inr, Bool, true, false}
-use Rattle.std.specs.Prelude.{◌⊎◌, Some, slice_get, nat_le}
+use Rattle.std.proofs.Common.{◌≡◌, ℕ, ◌+◌, ◌<◌, ◌≤◌, List, [], ◌∷◌, ◌++◌, length, arith, refl, sym, ap, subst, ◌∙◌, inl, inr, Bool, true, false}
+use Rattle.std.specs.Prelude.{Some, slice_get, nat_le}
 use Rattle.std.specs.List.{AllByRecursion}
 use Rattle.std.proofs.lemmas.List.{append-nil}
 use Rattle.seg_geometry.specs.declared.near.Filed.{Filed}
@@ -14,11 +14,11 @@ use Rattle.board_items.specs.Adds.{item_of_add, layer_of_add}
 use Rattle.board_rules.specs.declared.design.Parts.{Parts}
 use Rattle.board_rules.specs.FitAdds.{IsFitAdd}
 use Rattle.number_slots.specs.Slots.{IsAt, without}
-use Rattle.number_slots.proofs.ByNumber.{by_bool, at_either, without_none}
-use Rattle.board_core.specs.Boards.{Board, IsSameBoard, IsBoardOf, HasFitAct, made_of, made_from, taken_by, after, board_at}
+use Rattle.number_slots.proofs.ByNumber.{at_either, without_none}
+use Rattle.board_core.specs.Boards.{Board, IsSameBoard, HasFitAct, made_of, made_from, taken_by, after, board_at}
 use Rattle.board_core.proofs.Growing.{same_of, grown_same, next_board}
 use Rattle.check_core.specs.Changes.{deletes_in, adds_in, LengthensWithin, outside, left_below}
-use Rattle.check_core.specs.Checking.{Checking, IsChecking, taken_in, StandAt}
+use Rattle.check_core.specs.Checking.{Checking, IsChecking, StandAt}
 use Rattle.check_core.specs.Filings.{AreFiled, EntersAll}
 use Rattle.check_core.proofs.Leaving.{filed_ids, filed_after, as_before}
 

@@ -1,5 +1,5 @@
 -- Lists of numbers to which others come.
-use Rattle.std.proofs.Common.{◌≡◌, ℕ, zero, suc, ◌+◌, ◌<◌, List, [], ◌∷◌, ◌++◌, length, get_or, take, sym, subst, ◌∙◌, arith, inl, inr, true, add-one}
+use Rattle.std.proofs.Common.{◌≡◌, ℕ, zero, suc, ◌+◌, ◌<◌, List, [], ◌∷◌, ◌++◌, length, get_or, take, sym, subst, ◌∙◌, arith, inl, inr, true}
 use Rattle.std.specs.Prelude.{◌⊎◌, ◌↔◌, Any, Result, Ok, Err, OnOk, is_ok, if◌then◌else◌}
 use Rattle.std.specs.List.{Contains}
 use Rattle.std.proofs.lemmas.List.{take_more, get_or_default}

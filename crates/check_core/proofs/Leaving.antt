@@ -1,18 +1,16 @@
 -- What is filed when some numbers go, and when others come.
-use Rattle.std.proofs.Common.{◌≡◌, ℕ, ◌+◌, ◌<◌, ◌≤◌, List, [], ◌∷◌, ◌++◌, Bool, true, false, ◌&&◌, ◌||◌, length, drop, arith, refl, sym, ap, subst, ◌∙◌, inl, inr}
-use Rattle.std.specs.Prelude.{◌==◌, not, cond, nat_le, nat_lt, ◌⊎◌}
+use Rattle.std.proofs.Common.{◌≡◌, ℕ, ◌+◌, ◌<◌, ◌≤◌, List, [], ◌∷◌, ◌++◌, Bool, true, false, ◌&&◌, arith, refl, sym, ap, subst, ◌∙◌, inl, inr}
+use Rattle.std.specs.Prelude.{not, nat_le, nat_lt}
 use Rattle.std.specs.List.{filter, AllByRecursion}
 use Rattle.std.proofs.lemmas.List.{append_assoc, append-nil}
 use Rattle.std.proofs.lemmas.List.Elements.{filter-append}
 use Rattle.std.proofs.lemmas.Bool.{lt-ltb, le-ltb, le-leb, lt-leb}
 use Rattle.seg_geometry.specs.declared.near.Filed.{Filed}
-use Rattle.seg_geometry.specs.Near as index
 use Rattle.area_geometry.specs.Copper.{Copper}
 use Rattle.board_items.specs.declared.items.Item.{Item}
 use Rattle.board_items.specs.declared.items.Padstack.{Padstack}
 use Rattle.board_items.specs.Shapes.{copper_of_item}
 use Rattle.number_slots.specs.Slots.{is_among, without, IsAt}
-use Rattle.number_slots.proofs.ByNumber.{by_bool}
 use Rattle.check_core.specs.Changes.{LengthensWithin, outside, left_below}
 use Rattle.check_core.specs.Filings.{AreFiledUnder, AreFiled, EntersAll, Lengthens}
 
@@ -110,8 +108,8 @@ within_join first mid last old now new low high (more, e, h) (end, f, k) = (
   more ++ end,
   f ∙ ap (λ (fs : List Filed). fs ++ end) e ∙ append_assoc old more end,
   all_append (λ (x : Filed). (first ≤ x.id) × (x.id < last)) more end
-    (all_weaker (λ (x : Filed). (first ≤ x.id) × (x.id < mid)) (λ (x : Filed). (first ≤ x.id) × (x.id < last)) more (λ x w. (w.0, omega (arith, w.1, high))) h)
-    (all_weaker (λ (x : Filed). (mid ≤ x.id) × (x.id < last)) (λ (x : Filed). (first ≤ x.id) × (x.id < last)) end (λ x w. (omega (arith, w.0, low), w.1)) k),
+      (all_weaker (λ (x : Filed). (first ≤ x.id) × (x.id < mid)) (λ (x : Filed). (first ≤ x.id) × (x.id < last)) more (λ x w. (w.0, omega (arith, w.1, high))) h)
+      (all_weaker (λ (x : Filed). (mid ≤ x.id) × (x.id < last)) (λ (x : Filed). (first ≤ x.id) × (x.id < last)) end (λ x w. (omega (arith, w.0, low), w.1)) k),
 )
 
 low_out : (first last x : ℕ) → x < first → (nat_le first x && nat_lt x last) ≡ false
@@ -126,7 +124,7 @@ as_before first last old new low (more, e, h) =
     ap (outside first last) e
     ∙ filter-append (λ (f : Filed). not (nat_le first f.id && nat_lt f.id last)) old more
     ∙ (λ j. all_stay (λ (n : ℕ). nat_le first n && nat_lt n last) old (all_weaker (λ (f : Filed). f.id < first) (λ (f : Filed). (nat_le first f.id && nat_lt f.id last) ≡ false) old (λ f lt. low_out first last f.id lt) low) j
-      ++ all_leave (λ (n : ℕ). nat_le first n && nat_lt n last) more (all_weaker (λ (f : Filed). (first ≤ f.id) × (f.id < last)) (λ (f : Filed). (nat_le first f.id && nat_lt f.id last) ≡ true) more (λ f w. in_range first last f.id w.0 w.1) h) j)
+    ++ all_leave (λ (n : ℕ). nat_le first n && nat_lt n last) more (all_weaker (λ (f : Filed). (first ≤ f.id) × (f.id < last)) (λ (f : Filed). (nat_le first f.id && nat_lt f.id last) ≡ true) more (λ f w. in_range first last f.id w.0 w.1) h) j)
     ∙ append-nil old
 
 -- ---- deletes below a bound

@@ -13,3 +13,4 @@ pub mod Clashing
 pub mod Follow
 pub mod Making
 pub mod Meeting
+pub mod Finding

@@ -1,5 +1,5 @@
 -- What an act deletes and adds, and what an index holds while its boxes are changed. No public contract cites this module.
-use Rattle.std.specs.Prelude.{ℕ, ◌≡◌, ◌≤◌, ◌<◌, ◌==◌, ◌&&◌, not, nat_le, nat_lt, List, [], ◌++◌}
+use Rattle.std.specs.Prelude.{ℕ, ◌≡◌, ◌≤◌, ◌<◌, ◌&&◌, not, nat_le, nat_lt, List, [], ◌++◌}
 use Rattle.std.specs.List.{AllByRecursion, filter}
 use Rattle.seg_geometry.specs.declared.near.Filed.{Filed}
 use Rattle.board_items.specs.declared.requests.Add.{Add}

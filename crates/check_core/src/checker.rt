@@ -9,8 +9,8 @@ ghost use Rattle.check_core.specs.Checking.{IsChecking, AreFitEntries, HasTaken,
 
 use crate::clashes::rules_of;
 use crate::entering::enter_loaded;
-use crate::following::{adds_of, deletes_of, leave, put, take_out};
 use crate::findings::{Found, edit_found, nothing_found, rule_found};
+use crate::following::{adds_of, deletes_of, leave, put, take_out};
 use board_core::{Board, Verdict};
 use board_items::{Entry, Request};
 use board_rules::Design;

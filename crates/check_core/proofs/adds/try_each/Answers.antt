@@ -1,10 +1,8 @@
 use Rattle.std.proofs.Common.{◌≡◌, ◌+◌, ◌++◌, ◌∷◌, [], ◌∙◌, refl, List, Bool, take, drop, subst, sym, ap, arith}
 use Rattle.std.specs.Prelude.{Option, None, IsTrue, ◌↔◌, is_none}
-use Rattle.std.proofs.lemmas.List.{take_all, drop_all}
+use Rattle.std.proofs.lemmas.List.{take_all}
 use Rattle.board_items.specs.declared.requests.Add.{Add}
 use Rattle.board_items.specs.declared.history.Why.{Why}
-use Rattle.board_items.specs.Formed.{IsFormedAdd}
-use Rattle.board_core.proofs.Leasts.{all_at}
 use Rattle.board_core.specs.Verdicts.{IsRightAdd}
 use Rattle.board_rules.specs.Reasons.{IsAddsReason}
 use Rattle.board_rules.proofs.Counts.{adds_left}

@@ -1,7 +1,5 @@
-use Rattle.std.proofs.Common.{◌≡◌, ℕ, true}
-use Rattle.std.specs.Prelude.{◌↔◌}
 use Rattle.check_core.proofs.Adding.{right_fits}
-use Rattle.check_core.proofs.Clashing.{near_add, near_none}
+use Rattle.check_core.proofs.Clashing.{near_add}
 use Rattle.check_core.proofs.clashes.add_clashes.Goals as goal
 
 pub clashes_of-requires-clause-item_fits : goal.clashes_of-requires-clause-item_fits

@@ -1,4 +1,3 @@
-use Rattle.std.specs.Prelude.{IfOk}
 use Rattle.check_core.proofs.Clashing.{rise_if, exact_if}
 use Rattle.check_core.proofs.clashes.clashes.Goals as goal
 

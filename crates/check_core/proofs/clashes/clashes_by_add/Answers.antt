@@ -1,16 +1,14 @@
-use Rattle.std.proofs.Common.{◌≡◌, ◌+◌, ◌++◌, [], ◌≤◌, ◌∙◌, ℕ, List, drop, subst, sym, ap, arith, refl, get_or, false}
+use Rattle.std.proofs.Common.{◌≡◌, ◌+◌, ◌++◌, [], ◌∙◌, ℕ, List, subst, sym, ap, arith, refl, get_or, false}
 use Rattle.std.specs.Prelude.{IsTrue, ◌↔◌, Bool}
 use Rattle.std.proofs.lemmas.List.{append_assoc, append-nil}
 use Rattle.board_items.specs.declared.requests.Add.{Add}
 use Rattle.board_items.specs.Adds.{item_of_add}
-use Rattle.board_items.specs.Formed.{IsFormedAdd}
 use Rattle.board_rules.specs.Needs.{largest_of}
 use Rattle.board_rules.proofs.Walked.{left_is, unwalked, ended}
-use Rattle.board_core.proofs.Leasts.{all_at}
 use Rattle.board_core.specs.Verdicts.{IsRightAdd}
 use Rattle.check_core.specs.CheckCosts.{near_adds_most}
 use Rattle.check_core.specs.NearCosts.{near_most}
-use Rattle.check_core.specs.Tries.{AreClashes, AreNearAdd, paired}
+use Rattle.check_core.specs.Tries.{AreClashes, paired}
 use Rattle.check_core.proofs.Adding.{marks_many, mark_at}
 use Rattle.check_core.proofs.clashes.clashes_by_add.Goals as goal
 

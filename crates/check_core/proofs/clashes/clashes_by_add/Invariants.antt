@@ -9,5 +9,5 @@ abbrev pub invariant-loop-i : goal.invariant-loop-i
 invariant-loop-i g l = record {
   so_far : (more : List (ℕ × ℕ)) → AreClashes l.design.parts l.board l.deletes (l.i + 1) (drop l.i l.adds) more → AreClashes l.design.parts l.board l.deletes 1 l.adds (l.pairs ++ more);
   cost : l.steps + near_adds_most l.design.parts (largest_of l.design.parts l.board.rules) l.board.live (drop l.i l.adds)
-    ≤ l.initial.steps + near_adds_most l.design.parts (largest_of l.design.parts l.board.rules) l.board.live l.adds;
+      ≤ l.initial.steps + near_adds_most l.design.parts (largest_of l.design.parts l.board.rules) l.board.live l.adds;
 }

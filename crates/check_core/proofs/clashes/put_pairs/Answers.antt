@@ -1,4 +1,4 @@
-use Rattle.std.proofs.Common.{◌≡◌, ◌+◌, ◌++◌, ◌∙◌, List, ℕ, ap, sym, drop}
+use Rattle.std.proofs.Common.{◌+◌, ◌++◌, ◌∙◌, List, ℕ, ap, sym, drop}
 use Rattle.std.proofs.lemmas.List.{drop_all, append-nil}
 use Rattle.number_slots.proofs.ByNumber.{left_at}
 use Rattle.check_core.specs.Tries.{paired}

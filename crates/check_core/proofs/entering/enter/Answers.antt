@@ -4,8 +4,8 @@ use Rattle.board_items.specs.Shapes.{copper_of_item}
 use Rattle.std.proofs.Common.{List, subst}
 use Rattle.std.specs.Prelude.{Some, slice_get, ◌≡◌}
 use Rattle.board_items.specs.declared.items.Padstack.{Padstack}
-use Rattle.check_core.proofs.Entered.{enters_more, enters_none, enters_end}
-use Rattle.check_core.proofs.Leaving.{longer_none, longer_join}
+use Rattle.check_core.proofs.Entered.{enters_more}
+use Rattle.check_core.proofs.Leaving.{longer_join}
 use Rattle.check_core.proofs.entering.enter.Goals as goal
 
 pub loop-i-preserved : goal.loop-i-preserved

@@ -1,14 +1,12 @@
-use Rattle.std.proofs.Common.{◌≡◌, ◌+◌, ◌++◌, ◌∷◌, ◌∙◌, [], ℕ, List, length, drop, subst, sym, ap, arith}
+use Rattle.std.proofs.Common.{◌≡◌, ◌+◌, ◌∷◌, ℕ, List, length, drop, subst, sym, arith}
 use Rattle.std.proofs.lemmas.List.{drop_all}
-use Rattle.board_items.specs.declared.items.Item.{Item}
 use Rattle.board_items.specs.declared.requests.Add.{Add}
 use Rattle.board_rules.specs.FitAdds.{IsFitAdd}
 use Rattle.board_rules.proofs.Walked.{left_is}
 use Rattle.board_core.specs.Boards.{made_of, made_from}
 use Rattle.board_core.proofs.Leasts.{all_at}
-use Rattle.check_core.specs.Changes.{LengthensWithin}
 use Rattle.check_core.specs.Filings.{EntersAll}
-use Rattle.check_core.proofs.Leaving.{enters_join, enters_nothing, within_none, within_join, within_wider}
+use Rattle.check_core.proofs.Leaving.{enters_join, enters_nothing, within_join, within_wider}
 use Rattle.check_core.proofs.following.enter_adds.Goals as goal
 
 pub enter_add-requires : goal.enter_add-requires

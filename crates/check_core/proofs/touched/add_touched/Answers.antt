@@ -1,4 +1,3 @@
-use Rattle.std.proofs.Common.{true}
 use Rattle.board_items.specs.Adds.{item_of_add}
 use Rattle.board_items.specs.Shapes.{copper_of_item}
 use Rattle.boundaries.specs.Touching.{IsTouched}

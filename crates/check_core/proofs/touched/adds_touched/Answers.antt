@@ -1,4 +1,4 @@
-use Rattle.std.proofs.Common.{arith, ap, ◌+◌, ℕ, List, take, subst, sym, ◌≡◌, get_or, false}
+use Rattle.std.proofs.Common.{arith, ap, ℕ, List, subst, sym, get_or, false}
 use Rattle.std.specs.Prelude.{Any, IsTrue, ◌↔◌, Bool}
 use Rattle.board_core.specs.Verdicts.{IsRightAdd}
 use Rattle.std.proofs.lemmas.List.{take_all}

@@ -1,9 +1,8 @@
-use Rattle.std.proofs.Common.{◌≡◌, ◌≤◌, ◌+◌, ℕ, arith, subst, sym}
+use Rattle.std.proofs.Common.{arith, subst}
 use Rattle.board_items.specs.declared.items.Item.{Item}
 use Rattle.board_items.specs.Shapes.{copper_of_item}
 use Rattle.boundaries.specs.Touching.{IsTouched}
 use Rattle.board_core.specs.Costs.{touch_most}
-use Rattle.number_slots.specs.Slots.{IsAt}
 use Rattle.number_slots.proofs.Sums.{sum_at}
 use Rattle.board_core.proofs.Near.{fit_at}
 use Rattle.check_core.specs.Tries.{IsMetByDelete}

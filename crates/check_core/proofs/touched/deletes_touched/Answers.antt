@@ -1,4 +1,4 @@
-use Rattle.std.proofs.Common.{arith, ap, ◌+◌, ℕ, List, take, subst}
+use Rattle.std.proofs.Common.{arith, ap, ℕ, List, subst}
 use Rattle.std.specs.Prelude.{Any}
 use Rattle.std.proofs.lemmas.List.{take_all}
 use Rattle.number_slots.proofs.ByNumber.{left_at}

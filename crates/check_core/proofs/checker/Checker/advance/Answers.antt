@@ -1,4 +1,4 @@
-use Rattle.std.proofs.Common.{◌≡◌, ◌≤◌, ◌<◌, ◌+◌, ◌∷◌, ◌∙◌, ◌^◌, ℕ, List, length, drop, ap, sym, subst, arith}
+use Rattle.std.proofs.Common.{◌≡◌, ◌+◌, ◌∙◌, drop, ap, sym, arith}
 use Rattle.std.specs.Prelude.{slice_get, Some}
 use Rattle.board_items.specs.Formed.{IsFormedAct}
 use Rattle.board_items.specs.declared.history.Entry.{Entry}

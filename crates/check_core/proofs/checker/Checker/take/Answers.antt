@@ -1,4 +1,4 @@
-use Rattle.std.proofs.Common.{◌+◌, ℕ, List, length, ap, sym, subst}
+use Rattle.std.proofs.Common.{◌+◌, List, length, ap, sym, subst}
 use Rattle.check_core.specs.Checking.{Checking, IsChecking}
 use Rattle.board_items.specs.declared.requests.Add.{Add}
 use Rattle.check_core.proofs.Follow.{checks_after, checks_before}
