@@ -57,13 +57,13 @@ grown_all S old new none g n = (
   λ s. (g n).1 (inr s),
 )
 
-any_front : {T : Type 0} (P : T → Type 0) (xs : List T) (x : T) → Any P xs → Any P (xs ++ x ∷ [])
+pub any_front : {T : Type 0} (P : T → Type 0) (xs : List T) (x : T) → Any P xs → Any P (xs ++ x ∷ [])
 any_front P xs x a = let c = Contains-append_left xs (x ∷ []) a.1 (a.0, a.2, a.3) in (c.0, a.1, c.1, c.2, a.4)
 
-any_last : {T : Type 0} (P : T → Type 0) (xs : List T) (x : T) → P x → Any P (xs ++ x ∷ [])
+pub any_last : {T : Type 0} (P : T → Type 0) (xs : List T) (x : T) → P x → Any P (xs ++ x ∷ [])
 any_last P xs x h = let c = Contains-push xs x in (c.0, x, c.1, c.2, h)
 
-any_either : {T : Type 0} (P : T → Type 0) (xs : List T) (x : T) → Any P (xs ++ x ∷ []) → Any P xs ⊎ P x
+pub any_either : {T : Type 0} (P : T → Type 0) (xs : List T) (x : T) → Any P (xs ++ x ∷ []) → Any P xs ⊎ P x
 any_either P xs x a = elim (Contains-push_cases xs x a.1 (a.0, a.2, a.3)) [
   | inl c ↦ inl (c.0, a.1, c.1, c.2, a.4)
   | inr e ↦ inr (subst P (sym e) a.4)

@@ -14,3 +14,4 @@ pub mod Follow
 pub mod Making
 pub mod Meeting
 pub mod Finding
+pub mod Tested

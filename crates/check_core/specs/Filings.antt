@@ -57,3 +57,12 @@ pub record FindsNear (by : ℕ) (filed : List Filed) (ids : List ℕ) (s : Coppe
 pub record FindsAll (by : ℕ) (shapes : List Copper) (filed : List Filed) (ids : List ℕ) : Type 0 where
   pub all : All (FindsNear by filed ids) shapes
   pub rising : IsStrictlyIncreasing ids
+
+-- something is filed under the id near the shape's box, moved out by so much
+pub record IsFoundBy (by : ℕ) (filed : List Filed) (id : ℕ) (s : Copper) : Type 0 where
+  pub box : Rect
+  pub box_is : IsBox box s by
+  pub file : Filed
+  pub file_is : Contains filed file
+  pub of : file.id ≡ id
+  pub near : IsNear s.layer box file

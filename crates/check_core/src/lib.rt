@@ -9,6 +9,7 @@ mod clashes;
 mod entering;
 mod findings;
 mod following;
+mod near_live;
 mod nearest;
 mod pairs;
 mod soon;

@@ -1,19 +1,20 @@
 //! The items that an item is too near to, asked of an index.
-ghost use Rattle.std.specs.Prelude.{◌≡◌, ◌≤◌, ℕ, IfOk, OnOk, IsTrue, not, length, All};
+ghost use Rattle.std.specs.Prelude.{◌≡◌, ◌≤◌, ℕ, IfOk, OnOk, IsTrue, not, length, ◌⊎◌, Any};
 ghost use Rattle.std.specs.List.{Contains};
 ghost use Rattle.std.specs.List.Sorted.{IsStrictlyIncreasing};
 ghost use Rattle.row_lists.specs.Limits.{width_limit_nm};
 ghost use Rattle.area_geometry.specs.Copper.{copper_of, IsWithinLimits};
+ghost use Rattle.board_items.specs.Adds.{item_seen};
 ghost use Rattle.board_items.specs.Shapes.{copper_of_item};
 ghost use Rattle.board_rules.specs.Designs.{IsFitItem, HasEnough};
 ghost use Rattle.board_rules.specs.Needs.{KeepsNeed, largest_of};
 ghost use Rattle.board_rules.specs.Rules.{under, IsFitView};
 ghost use Rattle.number_slots.specs.Slots.{numbered};
-ghost use Rattle.check_core.specs.Filings.{AreFiled, FindsNear, FindsAll};
+ghost use Rattle.check_core.specs.Filings.{AreFiled, FindsNear, FindsAll, IsFoundBy};
 ghost use Rattle.check_core.specs.Nearest.{IsTooNear, KeepsLater, IsLeastOf, Each};
 
 use area_geometry::{ShapeView, box_of};
-use board_items::{Item, shape_at, shape_count, view};
+use board_items::{Item, ItemView, shape_at, shape_count, view};
 use board_rules::{Design, RulesView};
 use near_slots::rising;
 use seg_geometry::{Ids, Near, Steps};
@@ -32,24 +33,31 @@ fn add_near<N: Near>(
     requires by_small { by ≤ width_limit_nm }
     ensures kept { OnOk result ((id : ℕ) → Contains found.old id → Contains found.new id) }
     ensures found { OnOk result (FindsNear by (N.filed near.now) found.new (copper_of shape.entry)) }
+    ensures sound { OnOk result ((id : ℕ) → Contains found.new id → Contains found.old id ⊎ IsFoundBy by (N.filed near.now) id (copper_of shape.entry)) }
 {
     let ids = near.query(shape.layer, box_of(shape, by))?;
     found.append_all(ids.into_vec())?;
     Ok(())
 }
 
-// The ids of all that is filed near one of an item's shapes, by their boxes moved out by `by` nm; rising, each once. An
-// `Err` is want of memory.
-fn found_near<N: Near>(design: &Design, near: &N, by: u32, item: &Item) -> Result<Ids, AllocError>
-    requires item_fits { IsFitItem design.now.parts item.now }
+/// The ids of all that is filed near one of an item's shapes, by their boxes moved out by `by` nm, and no others; rising,
+/// each once. An `Err` is want of memory.
+pub fn found_near<N: Near>(
+    design: &Design,
+    near: &N,
+    by: u32,
+    item: ItemView<'_>,
+) -> Result<Ids, AllocError>
+    requires item_fits { IsFitItem design.now.parts (item_seen item) }
     requires by_small { by ≤ width_limit_nm }
-    ensures { IfOk result
-        (FindsAll by (copper_of_item design.now.parts.stacks item.now) (N.filed near.now)) }
+    ensures all { IfOk result
+        (FindsAll by (copper_of_item design.now.parts.stacks (item_seen item.entry)) (N.filed near.now)) }
+    ensures sound { IfOk result (λ ids. (id : ℕ) → Contains ids id → Any (IsFoundBy by (N.filed near.now) id) (copper_of_item design.now.parts.stacks (item_seen item.entry))) }
 {
     let stacks = design.stacks();
     let mut found = Ids::new(stacks.allocator());
-    for i in 0..shape_count(view(item), stacks) {
-        add_near(near, shape_at(view(item), stacks, i), by, &mut found)?;
+    for i in 0..shape_count(item, stacks) {
+        add_near(near, shape_at(item, stacks, i), by, &mut found)?;
     }
     Ok(rising(found.into_vec()))
 }
@@ -117,6 +125,6 @@ pub fn nearest<N: Near, L: Ledger>(
     requires filed { AreFiled design.now.parts.stacks (numbered 1 design.now.parts.items) (N.filed near.now) }
     ensures { IfOk result (λ best. IsLeastOf (KeepsNeed design.now.parts (under rules.entry)) (numbered 1 design.now.parts.items) number item.now Each best) }
 {
-    let ids = found_near(design, near, by, item)?;
+    let ids = found_near(design, near, by, view(item))?;
     Ok(first_of(design, rules, number, item, ids.as_slice(), steps))
 }

@@ -20,29 +20,6 @@ use seg_geometry::{Ids, Near, Steps};
 use std::alloc::AllocError;
 use std::sync::ledger::Ledger;
 
-pub fn clashes_of<N: Near, L: Ledger>(
-    design: &Design,
-    rules: RulesView<'_>,
-    near: &N,
-    by: u32,
-    board: &Board,
-    deletes: &[u32],
-    item: ItemView<'_>,
-    steps: &mut Steps<L>,
-) -> Result<Ids, AllocError>
-    requires rules_fit { IsFitView design.now.parts rules }
-    requires item_fits { IsFitItem design.now.parts (item_seen item) }
-    requires board { IsBoardOf design.now.parts board.now }
-    requires largest { by ≡ largest_of design.now.parts (under rules) }
-    requires by_small { by ≤ width_limit_nm }
-    requires filed { AreFiled design.now.parts.stacks board.now.live (N.filed near.now) }
-    ensures exact { IfOk result (λ ids. (id : ℕ) → Contains ids id ↔ IsNear design.now.parts (under rules.entry) board.now.live deletes.now (item_seen item.entry) id) }
-    ensures rising { IfOk result IsStrictlyIncreasing }
-    ensures cost { steps.new ≤ steps.old + near_most design.now.parts by (item_seen item.entry) board.now.live }
-{
-    Err(AllocError)
-}
-
 pub fn least_pair_of<N: Near, L: Ledger>(
     design: &Design,
     rules: RulesView<'_>,
