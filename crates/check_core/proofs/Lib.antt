@@ -15,3 +15,4 @@ pub mod Making
 pub mod Meeting
 pub mod Finding
 pub mod Tested
+pub mod Paired

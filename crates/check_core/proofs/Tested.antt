@@ -1,15 +1,14 @@
 -- What the tests of live items say that an index finds near, and what they take.
-use Rattle.std.proofs.Common.{◌≡◌, ℕ, zero, suc, ◌+◌, ◌-◌, ◌<◌, ◌≤◌, List, [], ◌∷◌, ◌++◌, Bool, true, false, length, get_or, take, arith, refl, sym, ap, subst, ◌∙◌, inl, inr, ◌==◌}
+use Rattle.std.proofs.Common.{◌≡◌, ℕ, zero, suc, ◌+◌, ◌-◌, ◌<◌, ◌≤◌, List, [], ◌∷◌, ◌++◌, Bool, true, false, length, get_or, take, arith, refl, sym, subst, ◌∙◌, inl, inr}
 use Rattle.std.specs.Prelude.{◌⊎◌, ◌↔◌, IsTrue, not, Option, Any, nat_le, nat_lt, ◌&&◌, if◌then◌else◌}
-use Rattle.std.specs.List.{Contains, AllByRecursion, list_any}
+use Rattle.std.specs.List.{Contains, list_any}
 use Rattle.std.specs.List.Sorted.{IsStrictlyIncreasing}
-use Rattle.std.proofs.lemmas.Bool.{not_from_false, not-true, false_from_ne_true, le-leb, lt-leb, lt-ltb, le-ltb}
+use Rattle.std.proofs.lemmas.Bool.{not_from_false, not-true, false_from_ne_true, lt-leb, le-ltb}
 use Rattle.std.proofs.lemmas.List.{take_more, take_all, get_or_default}
 use Rattle.std.proofs.lemmas.List.Elements.{Contains-append_cases, Contains-push_cases, Contains-append_left, Contains-push}
 use Rattle.std.proofs.lemmas.List.Folds.{list_any-from_Any}
 use Rattle.std.proofs.lemmas.List.Kept.{AllPairs-from_increasing}
 use Rattle.seg_geometry.specs.declared.near.Filed.{Filed}
-use Rattle.seg_geometry.specs.Rectangles.{Meets}
 use Rattle.area_geometry.specs.Copper.{Copper}
 use Rattle.area_geometry.specs.Boxes.{are_boxes_near, AreBoxesNear}
 use Rattle.area_geometry.proofs.Reaches.{near_told}
@@ -26,7 +25,7 @@ use Rattle.number_slots.proofs.Sums.{sum_on, sum_most}
 use Rattle.boundaries.proofs.Walked.{rising_pushed}
 use Rattle.board_core.specs.Edits.{IsNear}
 use Rattle.check_core.specs.Filings.{IsFiledBy, AreFiledUnder, AreFiled, IsFoundBy, FindsAll}
-use Rattle.check_core.specs.NearCosts.{are_items_near, near_pair_most, near_most}
+use Rattle.check_core.specs.NearCosts.{are_items_near, near_pair_most}
 use Rattle.check_core.specs.Nearby.{PutsWhere}
 use Rattle.check_core.proofs.Growth.{of_among, among_of}
 use Rattle.check_core.proofs.Missing.{kept_where_missing}
@@ -75,12 +74,12 @@ filed_of : (stacks : List Padstack) (live : List (ℕ × Item)) (filed : List Fi
 filed_of stacks [] filed f e c = let none = subst (λ (l : List Filed). Contains l f) e c in absurd (omega (arith, none.1))
 filed_of stacks (l ∷ rest) filed f (front, back, e, r, j) c = elim (Contains-append_cases front back f (subst (λ (fs : List Filed). Contains fs f) e c)) [
   | inl a ↦ (let k = of_shape l.0 (copper_of_item stacks l.1) front f r a in record {
-      item = l.1;
-      item_is = inl (sym k.by_box.of, refl);
-      shape = k.shape;
-      shape_is = k.shape_is;
-      by_box = subst (λ (n : ℕ). IsFiledBy n k.shape f) (sym k.by_box.of) k.by_box;
-    })
+    item = l.1;
+    item_is = inl (sym k.by_box.of, refl);
+    shape = k.shape;
+    shape_is = k.shape_is;
+    by_box = subst (λ (n : ℕ). IsFiledBy n k.shape f) (sym k.by_box.of) k.by_box;
+  })
   | inr b ↦ (let k = filed_of stacks rest back f j b in record { item = k.item; item_is = inr k.item_is; shape = k.shape; shape_is = k.shape_is; by_box = k.by_box })
 ]
 
@@ -108,7 +107,7 @@ found_is_near stacks by n item y live filed id rises files a at =
 
 -- ---- what the tests take
 
-tested_most : (p : Parts) (by : ℕ) (item y : Item) → are_items_near p.stacks by item y ≡ true → near_pair_most p by item y ≡ pair_most p item y
+pub tested_most : (p : Parts) (by : ℕ) (item y : Item) → are_items_near p.stacks by item y ≡ true → near_pair_most p by item y ≡ pair_most p item y
 unfolding near_pair_most
 tested_most p by item y e = rw e refl
 
@@ -121,7 +120,7 @@ same_term w v m x h =
     (λ here. let same : w x.1 ≡ v x.1 = h (omega (arith, from, here)) in rw same refl))
 
 -- the sums at a number are the same where what stands there is counted the same
-same_at : {T : Type 0} (w v : T → ℕ) (m : ℕ) (xs : List (ℕ × T)) → ((x : T) → IsAt xs m x → w x ≡ v x) → sum_between w m (m + 1) xs ≡ sum_between v m (m + 1) xs
+pub same_at : {T : Type 0} (w v : T → ℕ) (m : ℕ) (xs : List (ℕ × T)) → ((x : T) → IsAt xs m x → w x ≡ v x) → sum_between w m (m + 1) xs ≡ sum_between v m (m + 1) xs
 same_at w v m [] h = refl
 same_at w v m (x ∷ xs) h = let one = same_term w v m x (λ e. h x.1 (inl (e, refl))) in let more = same_at w v m xs (λ y at. h y (inr at)) in omega (arith, one, more)
 

@@ -1,7 +1,7 @@
 -- How many steps the tests take that an index leaves: only items of which boxes on one layer meet are tested.
 -- Cited by the calls that look for near live items
-use Rattle.std.specs.Prelude.{ℕ, ◌+◌, Bool, if◌then◌else◌, List, [], ◌∷◌}
-use Rattle.std.specs.List.{list_any}
+use Rattle.std.specs.Prelude.{ℕ, ◌+◌, Bool, nat_le, if◌then◌else◌, List, [], ◌∷◌}
+use Rattle.std.specs.List.{filter, list_any}
 use Rattle.area_geometry.specs.Boxes.{are_boxes_near}
 use Rattle.board_items.specs.declared.items.Item.{Item}
 use Rattle.board_items.specs.declared.items.Padstack.{Padstack}
@@ -26,3 +26,7 @@ near_most p by item live = sum_of (near_pair_most p by item) live
 abbrev pub near_pairs_most : Parts → ℕ → List (ℕ × Item) → ℕ
 near_pairs_most p by [] = 0
 near_pairs_most p by (x ∷ rest) = near_most p by x.1 rest + near_pairs_most p by rest
+
+-- those of numbers from n on
+abbrev pub from_on : {T : Type 0} → ℕ → List (ℕ × T) → List (ℕ × T)
+from_on n live = filter (λ x. nat_le n x.0) live

@@ -1,5 +1,5 @@
 -- The least live item of a greater number that an item is too near to; what two items must keep is any relation
--- Cited by the steps of `first_pair`; its promise is `IsLeastPair`
+-- Cited by the steps of `first_pair` and of a check; their promise is `IsLeastPair`
 use Rattle.std.specs.Prelude.{ℕ, ◌<◌, List, Option, Some, None}
 use Rattle.board_items.specs.declared.items.Item.{Item}
 use Rattle.number_slots.specs.Slots.{IsAt}

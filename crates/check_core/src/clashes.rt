@@ -16,8 +16,8 @@ ghost use Rattle.check_core.specs.NearCosts.{near_most, near_pairs_most};
 ghost use Rattle.check_core.specs.Tries.{AreTried, AreNearAdd, AreClashes, paired};
 
 use crate::adds::item_made;
+use crate::live_pairs::least_pair_of;
 use crate::near_live::clashes_of;
-use crate::soon::least_pair_of;
 use board_core::{Board, Pairs};
 use board_items::Add;
 use board_rules::{Design, RulesView};

@@ -9,10 +9,10 @@ mod clashes;
 mod entering;
 mod findings;
 mod following;
+mod live_pairs;
 mod near_live;
 mod nearest;
 mod pairs;
-mod soon;
 mod touched;
 
 pub use checker::Checker;

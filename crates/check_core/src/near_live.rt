@@ -97,7 +97,16 @@ pub fn clashes_of<N: Near, L: Ledger>(
     let ids = found_near(design, near, by, item)?;
     let mut clashes = Ids::new(design.stacks().allocator());
     for id in ids.as_slice() {
-        put_near(design, rules, board, deletes, item, *id, &mut clashes, steps)?;
+        put_near(
+            design,
+            rules,
+            board,
+            deletes,
+            item,
+            *id,
+            &mut clashes,
+            steps,
+        )?;
     }
     Ok(clashes)
 }

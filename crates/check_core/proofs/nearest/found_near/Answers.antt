@@ -1,7 +1,7 @@
 use Rattle.std.proofs.Common.{◌≡◌, ◌≤◌, ◌<◌, ◌^◌, ℕ, List, length, subst}
 use Rattle.std.specs.Prelude.{Some, slice_get, ◌↔◌}
 use Rattle.std.specs.List.{Contains}
-use Rattle.area_geometry.specs.Copper.{Copper, copper_of}
+use Rattle.area_geometry.specs.Copper.{copper_of}
 use Rattle.board_items.specs.Adds.{item_seen}
 use Rattle.board_items.specs.Shapes.{copper_of_item}
 use Rattle.board_items.specs.declared.items.Padstack.{Padstack}
