@@ -13,14 +13,33 @@ use Rattle.board_items.specs.declared.history.Entry.{Entry}
 use Rattle.board_items.specs.Adds.{item_of_add, layer_of_add}
 use Rattle.board_rules.specs.declared.design.Parts.{Parts}
 use Rattle.board_rules.specs.FitAdds.{IsFitAdd}
+use Rattle.board_rules.specs.Rules.{IsFitRules}
 use Rattle.number_slots.specs.Slots.{IsAt, without}
 use Rattle.number_slots.proofs.ByNumber.{at_either, without_none}
-use Rattle.board_core.specs.Boards.{Board, IsSameBoard, HasFitAct, made_of, made_from, taken_by, after, board_at}
-use Rattle.board_core.proofs.Growing.{same_of, grown_same, next_board}
+use Rattle.board_core.specs.Boards.{Board, AreFitItems, IsBoardOf, IsSameBoard, HasFitAct, made_of, made_from, taken_by, after, board_at}
+use Rattle.board_core.proofs.Growing.{grown_same, next_board}
 use Rattle.check_core.specs.Changes.{deletes_in, adds_in, LengthensWithin, outside, left_below}
 use Rattle.check_core.specs.Checking.{Checking, IsChecking, StandAt}
 use Rattle.check_core.specs.Filings.{AreFiled, EntersAll}
 use Rattle.check_core.proofs.Leaving.{filed_ids, filed_after, as_before}
+
+-- ---- boards that are the same
+
+same_fits : (p : Parts) (b c : Board) → IsSameBoard b c → IsBoardOf p c → IsBoardOf p b
+same_fits p b c same h = record { fit = subst (AreFitItems p) (sym same.live) h.fit; rules = subst (IsFitRules p) (sym same.rules) h.rules }
+
+pub same_chain : (a b c : Board) → IsSameBoard a b → IsSameBoard b c → IsSameBoard a c
+same_chain a b c s t = record {
+  live = s.live ∙ t.live;
+  next_id = s.next_id ∙ t.next_id;
+  held = s.held ∙ t.held;
+  fences = s.fences ∙ t.fences;
+  last = s.last ∙ t.last;
+  rules = s.rules ∙ t.rules;
+  count = s.count ∙ t.count;
+}
+
+-- ---- one entry more
 
 unchanged : (live : List (ℕ × Item)) → live ≡ without [] live ++ []
 unchanged live = sym (append-nil (without [] live) ∙ without_none live)
@@ -107,7 +126,7 @@ pub checks_before : (p : Parts) (c : Checking) (new : Board) (next last end : �
 checks_before p c new next last end mid filed checking within same more ends left =
     let below : AllByRecursion (λ (f : Filed). f.id < next) c.filed = filed_ids p.stacks (λ n. n < next) c.board.live c.filed (λ n x at. (within n x at).1) checking.files in
     let back : filed ≡ c.filed = left ∙ ap (λ (n : ℕ). outside next n mid) ends ∙ as_before next last c.filed mid below more in record {
-      fits = same_of p new c.board same checking.fits;
+      fits = same_fits p new c.board same checking.fits;
       files = subst (λ (fs : List Filed). AreFiled p.stacks new.live fs) (sym back)
           (subst (λ (live : List (ℕ × Item)). AreFiled p.stacks live c.filed) (sym same.live) checking.files);
     }

@@ -3,11 +3,10 @@ use Rattle.std.specs.Prelude.{slice_get, Some}
 use Rattle.board_items.specs.Formed.{IsFormedAct}
 use Rattle.board_items.specs.declared.history.Entry.{Entry}
 use Rattle.board_core.specs.Boards.{HasFitAct, taken_by, board_at}
-use Rattle.board_core.proofs.Growing.{same_then}
 use Rattle.board_core.proofs.Leasts.{get_there}
 use Rattle.board_rules.proofs.Walked.{left_is, all_left, at_next}
 use Rattle.check_core.specs.Checking.{taken_in}
-use Rattle.check_core.proofs.Follow.{follows_on, after_next, after_count}
+use Rattle.check_core.proofs.Follow.{follows_on, after_next, after_count, same_chain}
 use Rattle.check_core.proofs.checker.Checker.advance.Goals as goal
 
 pub take-requires : goal.take-requires
@@ -34,7 +33,7 @@ returns-in_err-take-clause-taken g c =
       part = c.loop-entry.entry-index;
       within = omega (arith, lt);
       counted = omega (arith, c.loop-entry.invariant.counted, same.count);
-      follows = λ journal k at old. same_then c.take.new.self.board c.loop-entry.self.board (board_at p journal (k + c.loop-entry.entry-index)) same (c.loop-entry.invariant.follows journal k at old);
+      follows = λ journal k at old. same_chain c.take.new.self.board c.loop-entry.self.board (board_at p journal (k + c.loop-entry.entry-index)) same (c.loop-entry.invariant.follows journal k at old);
     }
 
 pub loop-entry-preserved : goal.loop-entry-preserved
