@@ -15,4 +15,5 @@ pub mod Making
 pub mod Meeting
 pub mod Finding
 pub mod Tested
+pub mod Putting
 pub mod Paired

@@ -10,7 +10,8 @@ use Rattle.number_slots.specs.Sums.{sum_between}
 use Rattle.board_core.specs.Edits.{IsNear}
 use Rattle.check_core.specs.Filings.{IsFoundBy, FindsAll}
 use Rattle.check_core.specs.NearCosts.{near_pair_most}
-use Rattle.check_core.proofs.Tested.{put_more, put_all, bounded_more, bounded_all, near_taken}
+use Rattle.check_core.proofs.Putting.{put_more, put_all}
+use Rattle.check_core.proofs.Tested.{bounded_more, bounded_all, near_taken}
 use Rattle.check_core.proofs.near_live.clashes_of.Goals as goal
 
 pub returns-in_err-put_near-clause-cost : goal.returns-in_err-put_near-clause-cost

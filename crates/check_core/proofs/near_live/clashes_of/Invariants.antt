@@ -2,7 +2,8 @@ use Rattle.board_items.specs.Adds.{item_seen}
 use Rattle.board_rules.specs.Rules.{under}
 use Rattle.board_core.specs.Edits.{IsNear}
 use Rattle.check_core.specs.NearCosts.{near_pair_most}
-use Rattle.check_core.proofs.Tested.{ArePut, IsBounded}
+use Rattle.check_core.proofs.Putting.{ArePut}
+use Rattle.check_core.proofs.Tested.{IsBounded}
 use Rattle.check_core.proofs.near_live.clashes_of.Given as goal
 
 -- The numbers so far that are near are put, and no more was taken than they may take.
