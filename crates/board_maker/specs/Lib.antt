@@ -1,0 +1,4 @@
+pub mod Designs
+pub mod Draws
+pub mod Picks
+pub mod Scripts
