@@ -1,5 +1,5 @@
 -- The states at which lines are drawn
-use Rattle.std.proofs.Common.{◌≡◌, ℕ, zero, suc, ◌+◌, ◌*◌, refl, sym, ap, ◌∙◌, arith}
+use Rattle.std.proofs.Common.{◌≡◌, ℕ, zero, suc, ◌+◌, ◌*◌, refl, ap, ◌∙◌, arith}
 use Rattle.std.specs.Fn.{iterate}
 use Rattle.board_maker.specs.Draws.{next_state, drawn, state_at, pick}
 use Rattle.board_maker.specs.Picks.{picked_behind}

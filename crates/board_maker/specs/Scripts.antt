@@ -1,6 +1,6 @@
 -- The script that is made for a count of nets from a number: four lines for each net.
 -- Left out: what the lines are answered. Cited by `make` and its laws
-use Rattle.std.specs.Prelude.{ℕ, ◌+◌, ◌*◌, ◌/◌, ◌%◌, ◌<◌, pos, List, [], ◌∷◌, map, nat_lt, ◌==◌, if◌then◌else◌}
+use Rattle.std.specs.Prelude.{ℕ, ◌+◌, ◌*◌, ◌/◌, ◌%◌, pos, List, [], ◌∷◌, map, nat_lt, ◌==◌, if◌then◌else◌}
 use Rattle.std.specs.List.{flat_map, range_with_len}
 use Rattle.board_items.specs.declared.requests.Add.{Add}
 use Rattle.board_items.specs.declared.requests.Add.TheVariants as adds
